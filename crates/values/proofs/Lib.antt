@@ -1,0 +1,2 @@
+mod Codings
+mod Same
