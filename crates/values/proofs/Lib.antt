@@ -1,2 +1,3 @@
 mod Codings
+pub mod Makings
 mod Same

@@ -1,0 +1,5 @@
+use Rattle.script.proofs.Reading.{baseline-one}
+use Rattle.script.proofs.written.BaselineWritten.the-impl.Needs as need
+
+pub one-meaning-law : need.one-meaning-law
+one-meaning-law = baseline-one

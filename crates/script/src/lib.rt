@@ -1,0 +1,3 @@
+//! Scripts: a text of set-up lines and calls, and the answers as text.
+pub mod words;
+pub mod written;
