@@ -54,6 +54,15 @@ pub length-texts : (ws : List (RefT (List ℕ))) → length (texts ws) ≡ lengt
 length-texts [] = refl
 length-texts (w ∷ ws) = ap suc (length-texts ws)
 
+pub no-texts : (ws : List (RefT (List ℕ))) → length ws ≡ 0 → texts ws ≡ []
+no-texts [] e = refl
+no-texts (w ∷ ws) e = absurd (omega (arith, e))
+
+pub one-text : (ws : List (RefT (List ℕ))) (d : RefT (List ℕ)) → length ws ≡ 1 → texts ws ≡ getD ws 0 d .now ∷ []
+one-text [] d e = absurd (omega (arith, e))
+one-text (w ∷ []) d e = refl
+one-text (w ∷ (v ∷ ws)) d e = absurd (omega (arith, e))
+
 pub wholes-length : (ws : List (List ℕ)) (ns : List ℕ) → Wholes ws ns → length ws ≡ length ns
 wholes-length [] [] h = refl
 wholes-length [] (n ∷ ns) h = absurd h
