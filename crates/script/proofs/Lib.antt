@@ -1,2 +1,5 @@
+mod Counting
 mod Cutting
-mod Reading
+mod Meanings
+mod Ordering
+mod Turns

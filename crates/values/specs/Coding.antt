@@ -1,6 +1,9 @@
 -- Coding a value as four payloads, and uncoding.
 use Prim.Native.Nat.{ℕ, _≤_}
+use mathlib.Core.List.{List, _++_}
 use mathlib.Core.Path.{_≡_}
+use lib.Chars.{codes}
+use Rattle.std.specs.Written.{decimal}
 use Rattle.std.specs.declared.result.Result.{Result}
 use Rattle.std.specs.declared.result.Result.the-variants.{Err, Ok}
 use Rattle.values.specs.declared.fault.ValueFault.{ValueFault}
@@ -9,6 +12,10 @@ use Rattle.values.specs.declared.value.Payloads.{Payloads}
 
 abbrev pub payloads : ℕ → ℕ → ℕ → ℕ → Payloads
 payloads a b c d = record { first = a; second = b; third = c; fourth = d }
+
+-- four numbers with a space between
+abbrev pub payloads-text : Payloads → List ℕ
+payloads-text p = decimal (p .first) ++ (codes " " ++ (decimal (p .second) ++ (codes " " ++ (decimal (p .third) ++ (codes " " ++ decimal (p .fourth))))))
 
 -- a payload has 28 bits
 abbrev pub Payload : ℕ → Type 0

@@ -1,12 +1,14 @@
 //! What every kind of value gives: its kind number, its blank, and its coding as four payloads.
 ghost use Prim.Native.Nat.{ℕ};
+ghost use Rattle.std.specs.declared.option.Option.the-variants.{Some};
 ghost use Rattle.std.specs.declared.result.Result.the-variants.{Ok};
 ghost use Rattle.std.specs.declared.result.Result.{Result};
-ghost use Rattle.values.specs.Coding.{InLimits, Uncodes};
+ghost use Rattle.values.specs.Coding.{InLimits, Uncodes, payloads-text};
 ghost use Rattle.values.specs.declared.fault.ValueFault.{ValueFault};
 ghost use Rattle.values.specs.declared.value.Payloads.{Payloads};
 ghost use mathlib.Core.Path.{_≡_};
 use super::fault::ValueFault;
+use std::fmt;
 
 /// Four numbers, as a record keeps them. Those of a value are at most 268,435,455.
 #[derive(Clone, Copy, PartialEq, Eq, Debug)]
@@ -15,6 +17,18 @@ pub struct Payloads {
     pub second: u32,
     pub third: u32,
     pub fourth: u32,
+}
+
+pub impl fmt::Display for Payloads as PayloadsDisplay {
+    ghost shown = { λ p. Some (payloads-text p) };
+
+    fn fmt<W: fmt::Write>(&self, f: &mut fmt::Formatter<W>) -> fmt::Result {
+        let first = self.first;
+        let second = self.second;
+        let third = self.third;
+        let fourth = self.fourth;
+        write!(f, "{first} {second} {third} {fourth}")
+    }
 }
 
 /// A kind of value. `kind` is the kind number, `empty` the blank, and `coded` gives the payloads of a value.

@@ -3,7 +3,7 @@ use mathlib.Core.Logic.{_≢_}
 use mathlib.Core.Path.{_≡_, ap}
 use native.Mathlib.Omega.{arith}
 use borrow.Author.Needs.{needs}
-use Rattle.script.proofs.Reading.{length-texts, one-text}
+use Rattle.script.proofs.Meanings.{length-texts, one-text}
 use Rattle.script.proofs.words.only_word.Needs as need
 
 pub returns-in-len1 : need.returns-in-len1

@@ -8,7 +8,7 @@ use mathlib.Core.Logic.{_≢_}
 use mathlib.Core.Path.{_≡_, sym, subst}
 use Rattle.numbers.specs.Written.{Whole}
 use Rattle.script.specs.Words.{IsWhole, texts, word}
-use Rattle.script.proofs.Reading.{from-ref, length-texts, to-ref, wholes-at, wholes-from, wholes-length}
+use Rattle.script.proofs.Meanings.{from-ref, length-texts, to-ref, wholes-at, wholes-from, wholes-length}
 use Rattle.script.proofs.words.read_numbers.Needs as need
 
 pub returns-then-words : need.returns-then-words

@@ -4,7 +4,7 @@ use borrow.Author.Needs.{needs}
 use lib.ListN.{length}
 use mathlib.Core.Path.{_≡_}
 use Rattle.numbers.specs.Written.{Whole, Writes}
-use Rattle.script.proofs.Reading.{from-ref, length-texts, to-ref}
+use Rattle.script.proofs.Meanings.{from-ref, length-texts, to-ref}
 use Rattle.script.proofs.written.BaselineWritten.read.Needs as need
 
 pub returns-in-rest : need.returns-in-rest

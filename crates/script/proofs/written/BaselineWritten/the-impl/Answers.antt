@@ -1,4 +1,4 @@
-use Rattle.script.proofs.Reading.{baseline-one}
+use Rattle.script.proofs.Meanings.{baseline-one}
 use Rattle.script.proofs.written.BaselineWritten.the-impl.Needs as need
 
 pub one-meaning-law : need.one-meaning-law

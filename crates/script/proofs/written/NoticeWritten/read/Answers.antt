@@ -1,6 +1,6 @@
 use mathlib.Core.Logic.{inl, inr}
 use mathlib.Core.Path.{refl}
-use Rattle.script.proofs.Reading.{says, says-some}
+use Rattle.script.proofs.Meanings.{says, says-some}
 use Rattle.script.proofs.written.NoticeWritten.read.Needs as need
 
 pub returns-in-Break-name : need.returns-in-Break-name
