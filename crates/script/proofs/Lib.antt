@@ -1,5 +1,3 @@
 mod Counting
-mod Cutting
-mod Meanings
 mod Ordering
 mod Turns

@@ -7,7 +7,7 @@ use Rattle.std.specs.Iters.{paired}
 use Rattle.std.specs.Lines as std
 use Rattle.std.specs.declared.option.Option.{Option}
 use Rattle.std.specs.declared.result.Result.{Result}
-use Rattle.script.specs.Cutting.{Lines}
+use Rattle.notation.specs.Cutting.{Lines}
 use Rattle.script.specs.Reading.{ReadsLine, ReadsLines}
 use Rattle.script.specs.declared.line.Line.{Line}
 use Rattle.values.specs.declared.fault.ValueFault.{ValueFault}

@@ -10,10 +10,10 @@ use Rattle.std.specs.declared.option.Option.{Option}
 use Rattle.std.specs.declared.result.Result.{Result}
 use Rattle.std.specs.declared.result.Result.the-variants.{Err, Ok}
 use Rattle.std.specs.declared.vec.Vec.{Vec}
-use Rattle.script.specs.Cutting.{LineWords, Lines}
+use Rattle.notation.specs.Cutting.{LineWords, Lines}
 use Rattle.script.specs.Lines.{Means}
 use Rattle.script.specs.Order.{bad-lines, calls-of}
-use Rattle.script.specs.Words.{Tells}
+use Rattle.notation.specs.Words.{Tells}
 use Rattle.script.specs.declared.line.Call.{Call}
 use Rattle.script.specs.declared.line.Line.{Line}
 use Rattle.script.specs.declared.reading.Unread.{Unread}

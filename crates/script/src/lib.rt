@@ -3,5 +3,3 @@ pub mod answer;
 pub mod line;
 pub mod order;
 pub mod reading;
-pub mod words;
-pub mod written;

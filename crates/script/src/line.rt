@@ -1,8 +1,8 @@
 //! The lines of a script: what each form of line means.
 ghost use Rattle.script.specs.Lines.{Means, NamesKind};
-ghost use Rattle.script.specs.Words.{Tells, texts};
-use super::words::only_word;
-use super::written::Written;
+ghost use Rattle.notation.specs.Words.{Tells, texts};
+use notation::words::only_word;
+use notation::written::Written;
 use values::fault::ValueFault;
 
 /// The kind of value that a script is about.

@@ -12,8 +12,8 @@ use super::order::BadLine;
 use super::order::BadLineDebug;
 use super::order::bad_lines;
 use super::order::calls_of;
-use super::words::cut_words;
-use super::written::Written;
+use notation::words::cut_words;
+use notation::written::Written;
 use std::alloc::AllocError;
 use std::alloc::Global;
 

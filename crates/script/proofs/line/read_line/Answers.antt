@@ -1,4 +1,4 @@
-use Rattle.script.proofs.Meanings.{no-texts}
+use Rattle.notation.proofs.Meanings.{no-texts}
 use Rattle.script.proofs.line.read_line.Needs as need
 
 pub returns-in-rest : need.returns-in-rest

@@ -3,7 +3,7 @@ use Rattle.std.proofs.shelf.Results.{made-from-err}
 use Rattle.std.specs.Of.Vec.{vec-items}
 use Rattle.std.specs.Parts.{lines-rest}
 use Rattle.script.specs.Lines.{Means}
-use Rattle.script.specs.Words.{Tells, texts}
+use Rattle.notation.specs.Words.{Tells, texts}
 use Rattle.script.proofs.Turns.{no-more, one-more}
 use Rattle.script.proofs.reading.read_lines.Needs as need
 

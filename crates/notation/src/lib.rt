@@ -1,0 +1,3 @@
+//! How values are written in a line: words, and what they write.
+pub mod words;
+pub mod written;
