@@ -1,18 +1,23 @@
 //! Baselines: three components of the field and a day.
 ghost use Rattle.values.specs.Baselines.{baseline-out, blank-baseline, coded-baseline, HasParts};
+ghost use Rattle.std.specs.declared.option.Option.the-variants.{Some};
 ghost use Rattle.values.specs.Making.{Made};
+ghost use Rattle.values.specs.Texts.{baseline-text};
 ghost use mathlib.Core.Path.{_≡_};
 use super::bounded::BoundedDebug;
+use super::bounded::BoundedDisplay;
 use super::bounded::BoundedPartialEq;
 use super::bounded::Day;
 use super::component::Component;
 use super::component::ComponentDebug;
+use super::component::ComponentDisplay;
 use super::component::ComponentPartialEq;
 use super::fault::Part;
 use super::fault::ValueFault;
 use super::value::Payloads;
 use super::value::Value;
 use numbers::tenths::Tenths;
+use std::fmt;
 
 /// A baseline: the components X, Y and Z in tenths of a nanotesla, and the day count.
 #[derive(Clone, Copy, PartialEq, Eq, Debug)]
@@ -21,6 +26,15 @@ pub struct Baseline {
     pub y: Component,
     pub z: Component,
     pub day: Day,
+}
+
+pub impl fmt::Display for Baseline as BaselineDisplay {
+    ghost shown = { λ b. Some (baseline-text b) };
+
+    fn fmt<W: fmt::Write>(&self, f: &mut fmt::Formatter<W>) -> fmt::Result {
+        let Baseline { x, y, z, day } = *self;
+        write!(f, "X {x} Y {y} Z {z} nT day {day}")
+    }
 }
 
 impl Baseline {

@@ -1,7 +1,10 @@
 //! Numbers that are in a range by their type.
 ghost use Prim.Native.Nat.{_≤_};
 ghost use Rattle.std.specs.Options.{Cases};
+ghost use Rattle.std.specs.Written.{decimal};
+ghost use Rattle.std.specs.declared.option.Option.the-variants.{Some};
 ghost use mathlib.Core.Path.{_≡_};
+use std::fmt;
 
 /// A number from `LOW` to `HIGH`.
 #[derive(Clone, Copy, PartialEq, Eq, Debug)]
@@ -9,6 +12,15 @@ pub struct Bounded<const LOW: u32, const HIGH: u32> {
     number: u32,
     ghost low: { LOW ≤ number },
     ghost high: { number ≤ HIGH },
+}
+
+pub impl<const LOW: u32, const HIGH: u32> fmt::Display for Bounded<LOW, HIGH> as BoundedDisplay {
+    ghost shown = { λ b. Some (decimal (b .number)) };
+
+    fn fmt<W: fmt::Write>(&self, f: &mut fmt::Formatter<W>) -> fmt::Result {
+        let number = self.number;
+        write!(f, "{number}")
+    }
 }
 
 impl<const LOW: u32, const HIGH: u32> Bounded<LOW, HIGH> {

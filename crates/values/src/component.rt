@@ -1,18 +1,31 @@
 //! A component of the field, in range by its type.
+ghost use Rattle.numbers.specs.Written.{tenths-text};
 ghost use Rattle.std.specs.Options.{Cases};
+ghost use Rattle.std.specs.declared.option.Option.the-variants.{Some};
 ghost use Rattle.values.specs.Parts.{component-in, component-payload};
 ghost use lib.IntN.{ℤ, pos};
 ghost use mathlib.Core.Bool.{false, true};
 ghost use mathlib.Core.Path.{_≡_};
 use numbers::tenths::Tenths;
 use numbers::tenths::TenthsDebug;
+use numbers::tenths::TenthsDisplay;
 use numbers::tenths::TenthsPartialEq;
+use std::fmt;
 
 /// A component of the field in tenths of a nanotesla, from −9,999,999 to 9,999,999.
 #[derive(Clone, Copy, PartialEq, Eq, Debug)]
 pub struct Component {
     tenths: Tenths,
     ghost in_range: { component-in (tenths .0) ≡ true },
+}
+
+pub impl fmt::Display for Component as ComponentDisplay {
+    ghost shown = { λ c. Some (tenths-text (c .tenths .0)) };
+
+    fn fmt<W: fmt::Write>(&self, f: &mut fmt::Formatter<W>) -> fmt::Result {
+        let tenths = self.tenths;
+        write!(f, "{tenths}")
+    }
 }
 
 impl Component {

@@ -1,8 +1,11 @@
 //! Notices: what instrument is in service, or was withdrawn.
+ghost use Rattle.std.specs.declared.option.Option.the-variants.{Some};
 ghost use Rattle.values.specs.Making.{Made};
 ghost use Rattle.values.specs.Notices.{coded-notice, in-service-out, IsInService, IsWithdrawn, withdrawn-out};
+ghost use Rattle.values.specs.Texts.{notice-text};
 ghost use Rattle.values.specs.declared.notice.Notice.the-variants.{NoneInService};
 use super::bounded::BoundedDebug;
+use super::bounded::BoundedDisplay;
 use super::bounded::BoundedPartialEq;
 use super::bounded::Day;
 use super::bounded::Reason;
@@ -11,6 +14,7 @@ use super::fault::Part;
 use super::fault::ValueFault;
 use super::value::Payloads;
 use super::value::Value;
+use std::fmt;
 
 /// A notice: none in service, or the serial number in service or withdrawn, with its day, and for a withdrawal
 /// the reason.
@@ -19,6 +23,20 @@ pub enum Notice {
     NoneInService,
     InService { serial: Serial, day: Day },
     Withdrawn { serial: Serial, day: Day, reason: Reason },
+}
+
+pub impl fmt::Display for Notice as NoticeDisplay {
+    ghost shown = { λ n. Some (notice-text n) };
+
+    fn fmt<W: fmt::Write>(&self, f: &mut fmt::Formatter<W>) -> fmt::Result {
+        match *self {
+            Notice::NoneInService => write!(f, "none in service"),
+            Notice::InService { serial, day } => write!(f, "in service serial {serial} day {day}"),
+            Notice::Withdrawn { serial, day, reason } => {
+                write!(f, "withdrawn serial {serial} day {day} reason {reason}")
+            }
+        }
+    }
 }
 
 impl Notice {
