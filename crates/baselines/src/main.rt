@@ -2,6 +2,9 @@
 //!
 //! With no argument the script is standard input. Each argument is a file with a script of its own. Lines that cannot
 //! be read are told on standard error, all of them, and the program ends with status 1 before any call is made.
+use notation::written::BaselineWritten;
+use notation::written::NoticeWritten;
+use notation::written::Written;
 use script::answer::AnswerDisplay;
 use script::answer::SummaryDisplay;
 use script::answer::answers_to;
@@ -13,9 +16,6 @@ use script::order::kind_of;
 use script::reading::Unread;
 use script::reading::read_lines;
 use script::reading::read_script;
-use notation::written::BaselineWritten;
-use notation::written::NoticeWritten;
-use notation::written::Written;
 use std::env;
 use std::error::AnyError;
 use std::fs;
@@ -38,7 +38,10 @@ fn run_calls<V: Value>(rt: &LibcRuntime, calls: &[Call<V>]) -> Result<(), AnyErr
 }
 
 /// Runs a script, or tells its bad lines.
-fn run_script<V: Written + Drop>(rt: &LibcRuntime, script: Result<Vec<Call<V>>, Unread>) -> Result<(), AnyError> {
+fn run_script<V: Written + Drop>(
+    rt: &LibcRuntime,
+    script: Result<Vec<Call<V>>, Unread>,
+) -> Result<(), AnyError> {
     match script {
         Ok(calls) => run_calls(rt, calls.as_slice()),
         Err(Unread::Memory) => Err("out of memory".into()),

@@ -30,8 +30,25 @@ fn tenths_are_read() -> Result<(), Fail> {
 #[test]
 fn other_texts_are_no_tenths() -> Result<(), Fail> {
     let bad = [
-        "", "-", "--1", "+5", "5.", ".5", "0.05", "1.25", "1.2.3", "1 2", "1,5", "1e3", "x", "0x", "0x1.5", "0x-1",
-        "214748364.8", "-214748364.9", "99999999999999999999",
+        "",
+        "-",
+        "--1",
+        "+5",
+        "5.",
+        ".5",
+        "0.05",
+        "1.25",
+        "1.2.3",
+        "1 2",
+        "1,5",
+        "1e3",
+        "x",
+        "0x",
+        "0x1.5",
+        "0x-1",
+        "214748364.8",
+        "-214748364.9",
+        "99999999999999999999",
     ];
     for text in bad {
         check_eq(Tenths::read(text), None).note(text)?;
@@ -41,7 +58,14 @@ fn other_texts_are_no_tenths() -> Result<(), Fail> {
 
 #[test]
 fn tenths_are_shown(rt: LibcRuntime) -> Result<(), Fail> {
-    let shown = [(0, "0.0"), (-1, "-0.1"), (9, "0.9"), (201_234, "20123.4"), (-3102, "-310.2"), (i32::MIN, "-214748364.8")];
+    let shown = [
+        (0, "0.0"),
+        (-1, "-0.1"),
+        (9, "0.9"),
+        (201_234, "20123.4"),
+        (-3102, "-310.2"),
+        (i32::MIN, "-214748364.8"),
+    ];
     for (tenths, text) in shown {
         let written = Tenths(tenths).to_string(rt.alloc())?;
         check_eq(written.as_str(), text)?;
@@ -56,7 +80,18 @@ fn whole_numbers_are_read() -> Result<(), Fail> {
     check_eq(read_whole("4294967295"), Some(u32::MAX))?;
     check_eq(read_whole("0xfFfFffff"), Some(u32::MAX))?;
     check_eq(read_whole("00012"), Some(12))?;
-    for text in ["", "4294967296", "0x100000000", "0x", "0X1", "-1", "+1", "1.0", "12a", "0x12g"] {
+    for text in [
+        "",
+        "4294967296",
+        "0x100000000",
+        "0x",
+        "0X1",
+        "-1",
+        "+1",
+        "1.0",
+        "12a",
+        "0x12g",
+    ] {
         check_eq(read_whole(text), None).note(text)?;
     }
     Ok(())

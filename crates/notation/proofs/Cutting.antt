@@ -19,7 +19,6 @@ use Rattle.notation.specs.Words.{texts}
 module _ {S : Type 0} (steps : S → Option (RefT (List ℕ)) → S → Type 0) (left : S → List ℕ)
     (word : (s t : S) (x : RefT (List ℕ)) → steps s (Some x) t → FirstWord (left s) (x .now) (left t))
     (end : (s t : S) → steps s None t → Without dark (left s)) where
-
   words-from-yields : (xs : List (RefT (List ℕ))) (s t u : S) → yields steps s xs t → steps t None u → Words (left s) (texts xs)
   words-from-yields [] s t u same last = subst (λ r. Without dark (left r)) (sym same) (end t u last)
   words-from-yields (x ∷ xs) s t u given last =

@@ -110,16 +110,16 @@ says-some ws x ns none h = omega (arith, length-texts ws, ap length (h .1))
 same-baseline : (x y z u v w : Tenths) (d e : ℕ) (a b : Result Baseline ValueFault) → x ≡ u → y ≡ v → z ≡ w → d ≡ e → Made (baseline-out (x .0) (y .0) (z .0) d) (HasParts x y z d) a → Made (baseline-out (u .0) (v .0) (w .0) e) (HasParts u v w e) b → a ≡ b
 same-baseline x y z u v w d e a b p q r s h k =
     made-unique (baseline-out (u .0) (v .0) (w .0) e) (HasParts u v w e) (parts-unique u v w e) a b
-      (transport (λ i. Made (baseline-out (p i .0) (q i .0) (r i .0) (s i)) (HasParts (p i) (q i) (r i) (s i)) a) h) k
+    (transport (λ i. Made (baseline-out (p i .0) (q i .0) (r i .0) (s i)) (HasParts (p i) (q i) (r i) (s i)) a) h) k
 
 pub baseline-one : (ws : List (List ℕ)) (a b : Result Baseline ValueFault) → BaselineWords ws a → BaselineWords ws b → a ≡ b
 baseline-one ws a b h k =
     same-baseline (h .x) (h .y) (h .z) (k .x) (k .y) (k .z) (h .day) (k .day) a b
-      (tenths-same (word 0 ws) (h .x) (k .x) (h .x-is) (k .x-is))
-      (tenths-same (word 1 ws) (h .y) (k .y) (h .y-is) (k .y-is))
-      (tenths-same (word 2 ws) (h .z) (k .z) (h .z-is) (k .z-is))
-      (whole-same (word 3 ws) (h .day) (k .day) (h .day-is) (k .day-is))
-      (h .made) (k .made)
+    (tenths-same (word 0 ws) (h .x) (k .x) (h .x-is) (k .x-is))
+    (tenths-same (word 1 ws) (h .y) (k .y) (h .y-is) (k .y-is))
+    (tenths-same (word 2 ws) (h .z) (k .z) (h .z-is) (k .z-is))
+    (whole-same (word 3 ws) (h .day) (k .day) (h .day-is) (k .day-is))
+    (h .made) (k .made)
 
 first : List ℕ → ℕ
 first l = getD l 0 0
@@ -127,12 +127,12 @@ first l = getD l 0 0
 same-service : (s d t c : ℕ) (a b : Result Notice ValueFault) → s ≡ t → d ≡ c → Made (in-service-out s d) (IsInService s d) a → Made (in-service-out t c) (IsInService t c) b → a ≡ b
 same-service s d t c a b p q h k =
     made-unique (in-service-out t c) (IsInService t c) (in-service-unique t c) a b
-      (transport (λ i. Made (in-service-out (p i) (q i)) (IsInService (p i) (q i)) a) h) k
+    (transport (λ i. Made (in-service-out (p i) (q i)) (IsInService (p i) (q i)) a) h) k
 
 same-withdrawn : (s d r t c q : ℕ) (a b : Result Notice ValueFault) → s ≡ t → d ≡ c → r ≡ q → Made (withdrawn-out s d r) (IsWithdrawn s d r) a → Made (withdrawn-out t c q) (IsWithdrawn t c q) b → a ≡ b
 same-withdrawn s d r t c q a b x y z h k =
     made-unique (withdrawn-out t c q) (IsWithdrawn t c q) (withdrawn-unique t c q) a b
-      (transport (λ i. Made (withdrawn-out (x i) (y i) (z i)) (IsWithdrawn (x i) (y i) (z i)) a) h) k
+    (transport (λ i. Made (withdrawn-out (x i) (y i) (z i)) (IsWithdrawn (x i) (y i) (z i)) a) h) k
 
 pub notice-one : (ws : List (List ℕ)) (a b : Result Notice ValueFault) → NoticeWords ws a → NoticeWords ws b → a ≡ b
 unfolding first

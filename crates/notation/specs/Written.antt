@@ -35,6 +35,6 @@ abbrev pub NoticeWords : List (List ℕ) → Result Notice ValueFault → Type 0
 NoticeWords ws r =
     (Says ws (codes "none") [] × (r ≡ Ok NoneInService))
     ⊎ (((serial : ℕ) × (day : ℕ) × Says ws (codes "in-service") (serial ∷ (day ∷ []))
-        × Made (in-service-out serial day) (IsInService serial day) r)
+    × Made (in-service-out serial day) (IsInService serial day) r)
     ⊎ ((serial : ℕ) × (day : ℕ) × (reason : ℕ) × Says ws (codes "withdrawn") (serial ∷ (day ∷ (reason ∷ [])))
-        × Made (withdrawn-out serial day reason) (IsWithdrawn serial day reason) r))
+    × Made (withdrawn-out serial day reason) (IsWithdrawn serial day reason) r))

@@ -33,7 +33,7 @@ module _ {V : Type 0} (written : List (List ℕ) → Result V ValueFault → Typ
     one-more l next o all some cut reads e = record {
       seen = old .seen ++ (l ∷ []);
       read = subst (paired (ReadsLine written) (old .seen ++ (l ∷ []))) (sym e) (paired-push (ReadsLine written) (old .seen) os l o (old .read) reads);
-      before = λ ls h. subst (Lines text) (sym (append-assoc (old .seen) (l ∷ []) ls)) (old .before (l ∷ ls) (next, some, cut, h))
+      before = λ ls h. subst (Lines text) (sym (append-assoc (old .seen) (l ∷ []) ls)) (old .before (l ∷ ls) (next, some, cut, h));
     }
 
     pub no-more : length rest ≡ 0 → ReadsLines written text os

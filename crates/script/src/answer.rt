@@ -95,5 +95,9 @@ pub fn summary_of(answers: &[Answer]) -> Summary
             accepted += 1;
         }
     }
-    Summary { calls: answers.len(), accepted, refused: answers.len() - accepted }
+    Summary {
+        calls: answers.len(),
+        accepted,
+        refused: answers.len() - accepted,
+    }
 }

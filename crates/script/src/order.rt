@@ -146,7 +146,10 @@ pub fn bad_lines<V>(heap: Global, lines: &[Option<Line<V>>]) -> Result<Vec<BadLi
     let mut bad = Vec::new(heap);
     for (i, line) in lines.iter().enumerate() {
         if let Some(cause) = fault_at(&lines[0..i], line) {
-            bad.push(BadLine { number: i + 1, cause })?;
+            bad.push(BadLine {
+                number: i + 1,
+                cause,
+            })?;
         }
     }
     Ok(bad)
@@ -163,7 +166,10 @@ fn call_in<V: Drop>(line: Option<Line<V>>) -> Option<Call<V>>
 }
 
 /// The calls, in order.
-pub fn calls_of<V: Drop>(heap: Global, lines: Vec<Option<Line<V>>>) -> Result<Vec<Call<V>>, AllocError>
+pub fn calls_of<V: Drop>(
+    heap: Global,
+    lines: Vec<Option<Line<V>>>,
+) -> Result<Vec<Call<V>>, AllocError>
     ensures { λ r. ⌜ made r (λ v. vec-items v ≡ calls-of (vec-items lines)) ⌝ }
 {
     let mut calls = Vec::new(heap);

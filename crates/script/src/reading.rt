@@ -35,7 +35,10 @@ pub impl From<AllocError> for Unread as UnreadFromAlloc {
 }
 
 /// What each line of the text means, or `None` where it means nothing.
-pub fn read_lines<V: Written + Drop>(heap: Global, text: &str) -> Result<Vec<Option<Line<V>>>, AllocError>
+pub fn read_lines<V: Written + Drop>(
+    heap: Global,
+    text: &str,
+) -> Result<Vec<Option<Line<V>>>, AllocError>
     ensures { λ r. ⌜ made r (λ v. ReadsLines (V·Written .written) (now (text .entry)) (vec-items v)) ⌝ }
 {
     let mut lines = Vec::new(heap);

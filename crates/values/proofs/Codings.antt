@@ -48,7 +48,7 @@ baseline-apart v w e = λ i.
       x = component-apart (v .x) (w .x) (first-is e) i;
       y = component-apart (v .y) (w .y) (second-is e) i;
       z = component-apart (v .z) (w .z) (third-is e) i;
-      day = bounded-same 0 99999 (v .day) (w .day) (fourth-is e) i
+      day = bounded-same 0 99999 (v .day) (w .day) (fourth-is e) i;
     }
 
 pub notice-apart : (v w : Notice) → coded-notice v ≡ coded-notice w → v ≡ w

@@ -28,7 +28,7 @@ parts-unique x y z day v w h k = λ i.
       x = component-same (v .x) (w .x) (ap (λ (t : Tenths). t .0) (h .0 ∙ sym (k .0))) i;
       y = component-same (v .y) (w .y) (ap (λ (t : Tenths). t .0) (h .1 ∙ sym (k .1))) i;
       z = component-same (v .z) (w .z) (ap (λ (t : Tenths). t .0) (h .2 ∙ sym (k .2))) i;
-      day = bounded-same 0 99999 (v .day) (w .day) (h .3 ∙ sym (k .3)) i
+      day = bounded-same 0 99999 (v .day) (w .day) (h .3 ∙ sym (k .3)) i;
     }
 
 pub in-service-unique : (serial day : ℕ) (v w : Notice) → IsInService serial day v → IsInService serial day w → v ≡ w

@@ -13,7 +13,7 @@ pub component-same : (a b : Component) → a .tenths .0 ≡ b .tenths .0 → a �
 component-same a b e = λ i.
     record {
       tenths = record { 0 = e i };
-      «in_range» = isProp→PathP (λ j. component-in (e j) ≡ true) (λ j. search props) (a .«in_range») (b .«in_range») i
+      «in_range» = isProp→PathP (λ j. component-in (e j) ≡ true) (λ j. search props) (a .«in_range») (b .«in_range») i;
     }
 
 pub bounded-same : (low high : ℕ) (a b : Bounded low high) → a .number ≡ b .number → a ≡ b
@@ -21,5 +21,5 @@ bounded-same low high a b e = λ i.
     record {
       number = e i;
       low = isProp→PathP (λ j. low ≤ e j) (λ j. search props) (a .low) (b .low) i;
-      high = isProp→PathP (λ j. e j ≤ high) (λ j. search props) (a .high) (b .high) i
+      high = isProp→PathP (λ j. e j ≤ high) (λ j. search props) (a .high) (b .high) i;
     }

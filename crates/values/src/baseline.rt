@@ -65,7 +65,12 @@ pub impl Value for Baseline as BaselineValue {
     }
 
     fn blank() -> Baseline {
-        Baseline { x: Component::zero(), y: Component::zero(), z: Component::zero(), day: Day::zero() }
+        Baseline {
+            x: Component::zero(),
+            y: Component::zero(),
+            z: Component::zero(),
+            day: Day::zero(),
+        }
     }
 
     fn code(&self) -> Payloads {

@@ -28,7 +28,11 @@ impl<const LOW: u32, const HIGH: u32> Bounded<LOW, HIGH> {
     pub fn new(number: u32) -> Option<Bounded<LOW, HIGH>>
         ensures { λ r. ⌜ Cases r (LOW ≤ number → number ≤ HIGH → ⊥) (λ b. b .number ≡ number) ⌝ }
     {
-        if LOW <= number && number <= HIGH { Some(Bounded { number }) } else { None }
+        if LOW <= number && number <= HIGH {
+            Some(Bounded { number })
+        } else {
+            None
+        }
     }
 
     /// The number itself.

@@ -33,7 +33,11 @@ impl Component {
     pub fn new(tenths: Tenths) -> Option<Component>
         ensures { λ r. ⌜ Cases r (component-in (tenths .0) ≡ false) (λ c. c .tenths ≡ tenths) ⌝ }
     {
-        if -9_999_999 <= tenths.0 && tenths.0 <= 9_999_999 { Some(Component { tenths }) } else { None }
+        if -9_999_999 <= tenths.0 && tenths.0 <= 9_999_999 {
+            Some(Component { tenths })
+        } else {
+            None
+        }
     }
 
     /// The component in tenths of a nanotesla.

@@ -31,8 +31,16 @@ pub impl Fault for ValueFault as ValueFaultFault {
 
     fn refusal(&self) -> Refusal {
         match self {
-            ValueFault::OutOfRange(part) => Refusal { number: 20, layer: Layer::Value, place: *part as u32 },
-            ValueFault::NoValue => Refusal { number: 12, layer: Layer::Value, place: 0 },
+            ValueFault::OutOfRange(part) => Refusal {
+                number: 20,
+                layer: Layer::Value,
+                place: *part as u32,
+            },
+            ValueFault::NoValue => Refusal {
+                number: 12,
+                layer: Layer::Value,
+                place: 0,
+            },
         }
     }
 }

@@ -21,8 +21,15 @@ use std::fmt;
 #[derive(Clone, Copy, PartialEq, Eq, Debug)]
 pub enum Notice {
     NoneInService,
-    InService { serial: Serial, day: Day },
-    Withdrawn { serial: Serial, day: Day, reason: Reason },
+    InService {
+        serial: Serial,
+        day: Day,
+    },
+    Withdrawn {
+        serial: Serial,
+        day: Day,
+        reason: Reason,
+    },
 }
 
 pub impl fmt::Display for Notice as NoticeDisplay {
@@ -32,9 +39,11 @@ pub impl fmt::Display for Notice as NoticeDisplay {
         match *self {
             Notice::NoneInService => write!(f, "none in service"),
             Notice::InService { serial, day } => write!(f, "in service serial {serial} day {day}"),
-            Notice::Withdrawn { serial, day, reason } => {
-                write!(f, "withdrawn serial {serial} day {day} reason {reason}")
-            }
+            Notice::Withdrawn {
+                serial,
+                day,
+                reason,
+            } => { write!(f, "withdrawn serial {serial} day {day} reason {reason}") }
         }
     }
 }
@@ -81,24 +90,58 @@ pub impl Value for Notice as NoticeValue {
 
     fn code(&self) -> Payloads {
         match *self {
-            Notice::NoneInService => Payloads { first: 0, second: 0, third: 0, fourth: 0 },
+            Notice::NoneInService => Payloads {
+                first: 0,
+                second: 0,
+                third: 0,
+                fourth: 0,
+            },
             Notice::InService { serial, day } => {
-                Payloads { first: 1, second: serial.get(), third: day.get(), fourth: 0 }
+                Payloads {
+                    first: 1,
+                    second: serial.get(),
+                    third: day.get(),
+                    fourth: 0,
+                }
             }
-            Notice::Withdrawn { serial, day, reason } => {
-                Payloads { first: 2, second: serial.get(), third: day.get(), fourth: reason.get() }
+            Notice::Withdrawn {
+                serial,
+                day,
+                reason,
+            } => {
+                Payloads {
+                    first: 2,
+                    second: serial.get(),
+                    third: day.get(),
+                    fourth: reason.get(),
+                }
             }
         }
     }
 
     fn uncode(payloads: Payloads) -> Result<Notice, ValueFault> {
         match payloads {
-            Payloads { first: 0, second: 0, third: 0, fourth: 0 } => Ok(Notice::NoneInService),
-            Payloads { first: 1, second, third, fourth: 0 } => Ok(Notice::InService {
+            Payloads {
+                first: 0,
+                second: 0,
+                third: 0,
+                fourth: 0,
+            } => Ok(Notice::NoneInService),
+            Payloads {
+                first: 1,
+                second,
+                third,
+                fourth: 0,
+            } => Ok(Notice::InService {
                 serial: Serial::new(second).ok_or(ValueFault::NoValue)?,
                 day: Day::new(third).ok_or(ValueFault::NoValue)?,
             }),
-            Payloads { first: 2, second, third, fourth } => Ok(Notice::Withdrawn {
+            Payloads {
+                first: 2,
+                second,
+                third,
+                fourth,
+            } => Ok(Notice::Withdrawn {
                 serial: Serial::new(second).ok_or(ValueFault::NoValue)?,
                 day: Day::new(third).ok_or(ValueFault::NoValue)?,
                 reason: Reason::new(fourth).ok_or(ValueFault::NoValue)?,

@@ -11,8 +11,8 @@ use Rattle.notation.proofs.words.cut_words.Needs as need
 pub returns : need.returns
 returns c =
     made-weaker (c .collect .result) _ _
-      (λ v ws. (c .uncommented .result .now, c .uncommented .ensures, subst (λ bs. Words bs (texts (vec-items v))) (c .split-whitespace .ensures .rest) ws))
-      (words-from-collect words-steps split-whitespace-rest
-        (λ s t x h. record { gap = h .0; cut = h .1; some = h .2; blank = h .3; solid = h .4; ends = h .5 })
-        (λ s t h. h .1)
-        (c .split-whitespace .result) (c .collect .result) (c .collect .ensures .ran))
+    (λ v ws. (c .uncommented .result .now, c .uncommented .ensures, subst (λ bs. Words bs (texts (vec-items v))) (c .split-whitespace .ensures .rest) ws))
+    (words-from-collect words-steps split-whitespace-rest
+    (λ s t x h. record { gap = h .0; cut = h .1; some = h .2; blank = h .3; solid = h .4; ends = h .5 })
+    (λ s t h. h .1)
+    (c .split-whitespace .result) (c .collect .result) (c .collect .ensures .ran))

@@ -20,8 +20,8 @@ loop-i-holds g c = (simp length-replicate (omega arith), λ k lt. absurd (omega 
 pub returns-in-Break-numbers : need.returns-in-Break-numbers
 returns-in-Break-numbers g c =
     rw (c .from-residual .ensures) (λ ns h.
-      let is = wholes-at _ ns (h .1) (c .loop-i .i) (omega (arith, h .0)) in
-      c .in-Break-numbers .ensures tt (getD ns (c .loop-i .i) 0) (is .1) (to-ref (λ w. Whole w (getD ns (c .loop-i .i) 0)) (c .args .words .now) (c .loop-i .i) _ (omega arith) (is .0)))
+    let is = wholes-at _ ns (h .1) (c .loop-i .i) (omega (arith, h .0)) in
+    c .in-Break-numbers .ensures tt (getD ns (c .loop-i .i) 0) (is .1) (to-ref (λ w. Whole w (getD ns (c .loop-i .i) 0)) (c .args .words .now) (c .loop-i .i) _ (omega arith) (is .0)))
 
 pub loop-i-again : need.loop-i-again
 loop-i-again g c =
@@ -29,13 +29,15 @@ loop-i-again g c =
     let n = c .in-Continue-numbers .field-0 in
     let lt : i < length (c .loop-i .numbers) = omega (arith, c .loop-i .inv .0) in
     let here : IsWhole (word i (texts (c .args .words .now))) n =
-      (from-ref (λ w. Whole w n) (c .args .words .now) i _ (omega arith) (c .in-Continue-numbers .ensures tt), search needs) in
-    (simp length-set (omega (arith, c .loop-i .inv .0)),
-     below-more _ _
-      (λ k h. let ne : k ≢ i = omega arith in rw getD-set-other (c .loop-i .inv .1 k h))
-      (rw getD-set-same here))
+    (from-ref (λ w. Whole w n) (c .args .words .now) i _ (omega arith) (c .in-Continue-numbers .ensures tt), search needs) in (
+      simp length-set (omega (arith, c .loop-i .inv .0)),
+      below-more _ _
+          (λ k h. let ne : k ≢ i = omega arith in rw getD-set-other (c .loop-i .inv .1 k h))
+          (rw getD-set-same here),
+    )
 
 pub returns : need.returns
-returns g c =
-    (omega (arith, c .loop-i .inv .0),
-     wholes-from _ _ (omega (arith, c .loop-i .inv .0, length-texts (c .args .words .now))) (λ k h. c .loop-i .inv .1 k (omega (arith, c .loop-i .inv .0))))
+returns g c = (
+  omega (arith, c .loop-i .inv .0),
+  wholes-from _ _ (omega (arith, c .loop-i .inv .0, length-texts (c .args .words .now))) (λ k h. c .loop-i .inv .1 k (omega (arith, c .loop-i .inv .0))),
+)

@@ -15,15 +15,15 @@ pub returns-in-Break-read-size : need.returns-in-Break-read-size
 returns-in-Break-read-size c =
     let minus = strip-prefix-char 45 (c .args .text .now) (Some (c .in-Some .rest)) (c .in-Some .ensures tt .cases) (lit< tt) in
     rw (c .from-residual .ensures) (λ z small w.
-      let p = signed-minus _ _ minus z w in
-      c .in-Break-read-size .ensures tt (p .0) (omega (arith, ap natAbs (p .2), abs-neg (p .0))) (p .1))
+    let p = signed-minus _ _ minus z w in
+    c .in-Break-read-size .ensures tt (p .0) (omega (arith, ap natAbs (p .2), abs-neg (p .0))) (p .1))
 
 pub returns-in-Break-read-size-2 : need.returns-in-Break-read-size-2
 returns-in-Break-read-size-2 c =
     let plain = strip-prefix-char 45 (c .args .text .now) None (c .in-None .ensures tt .cases) (lit< tt) in
     rw (c .from-residual-in-Break-read-size-2 .ensures) (λ z small w.
-      let p = signed-plain _ plain z w in
-      c .in-Break-read-size-2 .ensures tt (p .0) (omega (arith, ap natAbs (p .2))) (p .1))
+    let p = signed-plain _ plain z w in
+    c .in-Break-read-size-2 .ensures tt (p .0) (omega (arith, ap natAbs (p .2))) (p .1))
 
 pub returns-in-Continue-read-size : need.returns-in-Continue-read-size
 returns-in-Continue-read-size c =

@@ -15,8 +15,9 @@ add-accepted c =
 pub loop-answer-again : need.loop-answer-again
 loop-answer-again c =
     elim (c .if-is-accepted .came) [
-      then-is-accepted w ↦ count-passed accepted (c .args .answers .now) (c .loop-answer .answer-index) _ (c .loop-answer-test .taken) _ _ (c .loop-answer .inv) (w .if-is-accepted .ensures tt) (w .accepted-is)
-    | else-is-accepted w ↦ count-failed accepted (c .args .answers .now) (c .loop-answer .answer-index) _ (c .loop-answer-test .taken) _ _ (c .loop-answer .inv) (w .if-is-accepted .ensures tt) (w .accepted-is) ]
+      | then-is-accepted w ↦ count-passed accepted (c .args .answers .now) (c .loop-answer .answer-index) _ (c .loop-answer-test .taken) _ _ (c .loop-answer .inv) (w .if-is-accepted .ensures tt) (w .accepted-is)
+      | else-is-accepted w ↦ count-failed accepted (c .args .answers .now) (c .loop-answer .answer-index) _ (c .loop-answer-test .taken) _ _ (c .loop-answer .inv) (w .if-is-accepted .ensures tt) (w .accepted-is)
+    ]
 
 whole : (c : need.After-loop-answer) → c .loop-answer .accepted ≡ count accepted (c .args .answers .now)
 whole c = c .loop-answer .inv ∙ ap (count accepted) (take-all (c .loop-answer .answer-index) (c .args .answers .now) (c .loop-answer-test .left))

@@ -18,11 +18,12 @@ loop-i-again g c =
     let i = c .loop-i .i in
     let old = vec-items (c .loop-i .bad) in
     let more = bad-more (c .args .lines .now) i old (c .loop-i .inv) (c .index-lines-i .result) (c .loop-i-test .taken) (c .index-lines-i .is) (c .fault-at .result)
-      (c .fault-at .ensures ∙ ap (λ n. fault-at (take n (c .args .lines .now)) (c .index-lines-i .result)) (sub-zero i)) in
+    (c .fault-at .ensures ∙ ap (λ n. fault-at (take n (c .args .lines .now)) (c .index-lines-i .result)) (sub-zero i)) in
     let same : vec-items (c .match-fault-at .bad) ≡ old ++ told-as (i + 1) (c .fault-at .result) =
-      elim (c .match-fault-at .came) [
-        in-Some·in-Continue-push w ↦ ap vec-items (w .bad-is) ∙ w .in-Continue-push .ensures tt .items ∙ ap (λ f. old ++ told-as (i + 1) f) (sym (w .in-Some .is))
-      | in-rest w ↦ ap vec-items (w .bad-is) ∙ sym (append-nil old) ∙ ap (λ f. old ++ told-as (i + 1) f) (sym (w .in-rest .is)) ] in
+    elim (c .match-fault-at .came) [
+      | in-Some·in-Continue-push w ↦ ap vec-items (w .bad-is) ∙ w .in-Continue-push .ensures tt .items ∙ ap (λ f. old ++ told-as (i + 1) f) (sym (w .in-Some .is))
+      | in-rest w ↦ ap vec-items (w .bad-is) ∙ sym (append-nil old) ∙ ap (λ f. old ++ told-as (i + 1) f) (sym (w .in-rest .is))
+    ] in
     rw same more
 
 pub returns : need.returns

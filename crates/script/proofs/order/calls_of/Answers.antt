@@ -11,12 +11,12 @@ use Rattle.script.proofs.order.calls_of.Needs as need
 pub loop-line-again-in-Continue· : need.loop-line-again-in-Continue·
 loop-line-again-in-Continue· g c =
     let more = calls-more (into-iter-items (c .into-iter-line-iterator .result)) (into-iter-items (c .loop-line .line-iterator)) (vec-items (c .loop-line .calls)) (c .loop-line .inv)
-      (c .in-Some .line) (into-iter-items (c .next .last .self)) (c .in-Some .ensures tt .steps .0) (Some (c .in-Some-call-in .call)) (c .in-Some-call-in .ensures tt) in
+    (c .in-Some .line) (into-iter-items (c .next .last .self)) (c .in-Some .ensures tt .steps .0) (Some (c .in-Some-call-in .call)) (c .in-Some-call-in .ensures tt) in
     rw (c .in-Continue-push .ensures tt .items) more
 
 pub returns : need.returns
 returns g c =
     let none : length (into-iter-items (c .loop-line .line-iterator)) ≡ 0 = search needs in
     calls-end (into-iter-items (c .into-iter-line-iterator .result)) (into-iter-items (c .loop-line .line-iterator)) (vec-items (c .loop-line .calls)) (c .loop-line .inv)
-      (none-left _ none)
+    (none-left _ none)
     ∙ ap calls-of (c .into-iter-line-iterator .ensures .becomes .0)

@@ -16,12 +16,15 @@ returns-in-Break-push g c = made-from-err (c .from-residual-in-Break-push .resul
 pub loop-line-again : need.loop-line-again
 loop-line-again g c =
     let step = c .in-Some .ensures tt .steps in
-    let words = c .in-Continue-words .ensures tt in
-    (tt, tt, one-more (g .V·Written .written) (c .args .text .now) (lines-rest (c .loop-line .line-iterator)) (vec-items (c .loop-line .lines)) (c .loop-line .inv .2)
-      (c .in-Some .line .now) (lines-rest (c .next .last .self)) (c .read-line .result) (vec-items (c .push .last .self))
-      (step .0 .0) (step .0 .2)
-      (texts (vec-items (c .in-Continue-words .words)), words, subst (λ ws. Tells (Means (g .V·Written .written)) (texts ws) (c .read-line .result)) (c .as-slice .ensures .value) (c .read-line .ensures))
-      (c .in-Continue-push .ensures tt .items))
+    let words = c .in-Continue-words .ensures tt in (
+      tt,
+      tt,
+      one-more (g .V·Written .written) (c .args .text .now) (lines-rest (c .loop-line .line-iterator)) (vec-items (c .loop-line .lines)) (c .loop-line .inv .2)
+          (c .in-Some .line .now) (lines-rest (c .next .last .self)) (c .read-line .result) (vec-items (c .push .last .self))
+          (step .0 .0) (step .0 .2)
+          (texts (vec-items (c .in-Continue-words .words)), words, subst (λ ws. Tells (Means (g .V·Written .written)) (texts ws) (c .read-line .result)) (c .as-slice .ensures .value) (c .read-line .ensures))
+          (c .in-Continue-push .ensures tt .items),
+    )
 
 pub returns : need.returns
 returns g c = no-more (g .V·Written .written) (c .args .text .now) (lines-rest (c .loop-line .line-iterator)) (vec-items (c .loop-line .lines)) (c .loop-line .inv .2) (c .in-None .ensures tt .steps .0 .0)

@@ -14,7 +14,9 @@ returns-in-Break-calls-of g c =
 
 pub returns : need.returns
 returns g c =
-    let none : length (vec-items (c .in-Continue-bad .bad)) ≡ 0 = search needs in
-    (vec-items (c .in-Continue-lines .lines), c .in-Continue-lines .ensures tt,
-     ap (bad-lines []) (sym (c .as-slice .ensures .value)) ∙ sym (c .in-Continue-bad .ensures tt) ∙ none-left (vec-items (c .in-Continue-bad .bad)) none,
-     c .in-Continue-calls-of .ensures tt)
+    let none : length (vec-items (c .in-Continue-bad .bad)) ≡ 0 = search needs in (
+      vec-items (c .in-Continue-lines .lines),
+      c .in-Continue-lines .ensures tt,
+      ap (bad-lines []) (sym (c .as-slice .ensures .value)) ∙ sym (c .in-Continue-bad .ensures tt) ∙ none-left (vec-items (c .in-Continue-bad .bad)) none,
+      c .in-Continue-calls-of .ensures tt,
+    )

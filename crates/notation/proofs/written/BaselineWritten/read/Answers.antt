@@ -50,5 +50,5 @@ returns c =
       y-is = (from-ref (λ w. Writes w (c .in-Continue-y .y .0)) (c .args .words .now) 1 _ (omega arith) (c .in-Continue-y .ensures tt .reads), search needs);
       z-is = (from-ref (λ w. Writes w (c .in-Continue-z .z .0)) (c .args .words .now) 2 _ (omega arith) (c .in-Continue-z .ensures tt .reads), search needs);
       day-is = (from-ref (λ w. Whole w (c .in-Continue-day .day)) (c .args .words .now) 3 _ (omega arith) (c .in-Continue-day .ensures tt), search needs);
-      made = c .new .ensures
+      made = c .new .ensures;
     }

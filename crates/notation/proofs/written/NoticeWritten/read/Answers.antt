@@ -4,13 +4,15 @@ use Rattle.notation.proofs.Meanings.{says, says-some}
 use Rattle.notation.proofs.written.NoticeWritten.read.Needs as need
 
 pub returns-in-Break-name : need.returns-in-Break-name
-returns-in-Break-name c = 
+returns-in-Break-name c =
     rw (c .from-residual .ensures) (λ a h.
-      elim h [
-        inl n ↦ says-some _ _ _ (c .in-Break-name .ensures tt .cases) (n .0)
+    elim h [
+      | inl n ↦ says-some _ _ _ (c .in-Break-name .ensures tt .cases) (n .0)
       | inr h ↦ elim h [
-          inl s ↦ says-some _ _ _ (c .in-Break-name .ensures tt .cases) (s .2)
-        | inr w ↦ says-some _ _ _ (c .in-Break-name .ensures tt .cases) (w .3) ] ])
+        | inl s ↦ says-some _ _ _ (c .in-Break-name .ensures tt .cases) (s .2)
+        | inr w ↦ says-some _ _ _ (c .in-Break-name .ensures tt .cases) (w .3)
+      ]
+    ])
 
 pub returns-in-Continue-read-numbers : need.returns-in-Continue-read-numbers
 returns-in-Continue-read-numbers c =

@@ -31,5 +31,5 @@ returns-in-Err c =
     let number = c .in-Continue-number .number in
     let wide : SFits w64 number = search needs in
     let none : (z : ℤ) → SFits w32 z → Writes text z → ⊥ =
-      λ z fits w. c .in-Err .ensures tt (rw (toZ-ofZ w64 number wide, writes-unique text number z (c .in-Continue-number .ensures tt) w) fits) in
+    λ z fits w. c .in-Err .ensures tt (rw (toZ-ofZ w64 number wide, writes-unique text number z (c .in-Continue-number .ensures tt) w) fits) in
     record { reads = none; back = reads-back text None none }
