@@ -9,14 +9,14 @@ use Rattle.std.specs.declared.result.Result.the-variants.{Err, Ok}
 use Rattle.values.specs.Baselines.{coded-baseline}
 use Rattle.values.specs.Coding.{Uncodes}
 use Rattle.values.specs.Notices.{coded-notice}
-use Rattle.values.specs.Parts.{component-in, component-payload}
+use Rattle.parts.specs.Parts.{component-in, component-payload}
 use Rattle.values.specs.declared.baseline.Baseline.{Baseline}
-use Rattle.values.specs.declared.component.Component.{Component}
+use Rattle.parts.specs.declared.component.Component.{Component}
 use Rattle.values.specs.declared.fault.ValueFault.{ValueFault}
 use Rattle.values.specs.declared.notice.Notice.{Notice}
 use Rattle.values.specs.declared.notice.Notice.the-variants.{InService, NoneInService, Withdrawn}
 use Rattle.values.specs.declared.value.Payloads.{Payloads}
-use Rattle.values.proofs.Same.{bounded-same, component-same}
+use Rattle.parts.proofs.Same.{bounded-same, component-same}
 
 -- a coding that tells values apart gives back the value that was coded
 pub gives-back : {V : Type 0} (coded : V → Payloads) → ((v w : V) → coded v ≡ coded w → v ≡ w) → (v : V) (r : Result V ValueFault) → Uncodes coded (coded v) r → r ≡ Ok v

@@ -1,3 +1,2 @@
 mod Codings
 pub mod Makings
-mod Same

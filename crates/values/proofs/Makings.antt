@@ -14,7 +14,7 @@ use Rattle.values.specs.declared.fault.Part.{Part}
 use Rattle.values.specs.declared.fault.ValueFault.{ValueFault}
 use Rattle.values.specs.declared.notice.Notice.{Notice}
 use Rattle.values.specs.declared.notice.Notice.the-variants.{InService, NoneInService, Withdrawn}
-use Rattle.values.proofs.Same.{bounded-same, component-same}
+use Rattle.parts.proofs.Same.{bounded-same, component-same}
 
 pub made-unique : {V : Type 0} (out : Option Part) (Has : V → Type 0) → ((v w : V) → Has v → Has w → v ≡ w) → (a b : Result V ValueFault) → Made out Has a → Made out Has b → a ≡ b
 made-unique None Has one (Ok v) (Ok w) h k = ap Ok (one v w h k)

@@ -8,9 +8,9 @@ use Rattle.std.specs.declared.option.Option.{Option}
 use Rattle.numbers.specs.declared.tenths.Tenths.{Tenths}
 use Rattle.values.specs.Coding.{payloads}
 use Rattle.values.specs.Making.{first-out}
-use Rattle.values.specs.Parts.{component-in, component-payload, day-in}
+use Rattle.parts.specs.Parts.{component-in, component-payload, day-in}
 use Rattle.values.specs.declared.baseline.Baseline.{Baseline}
-use Rattle.values.specs.declared.component.Component.{Component}
+use Rattle.parts.specs.declared.component.Component.{Component}
 use Rattle.values.specs.declared.fault.Part.{Part}
 use Rattle.values.specs.declared.fault.Part.the-variants.{First, Fourth, Second, Third}
 use Rattle.values.specs.declared.value.Payloads.{Payloads}

@@ -3,5 +3,4 @@ pub mod Coding
 pub mod Faults
 pub mod Making
 pub mod Notices
-pub mod Parts
 pub mod Texts

@@ -5,7 +5,7 @@ use mathlib.Core.Path.{_≡_}
 use Rattle.std.specs.declared.option.Option.{Option}
 use Rattle.values.specs.Coding.{payloads}
 use Rattle.values.specs.Making.{first-out}
-use Rattle.values.specs.Parts.{day-in, reason-in, serial-in}
+use Rattle.parts.specs.Parts.{day-in, reason-in, serial-in}
 use Rattle.values.specs.declared.fault.Part.{Part}
 use Rattle.values.specs.declared.fault.Part.the-variants.{Fourth, Second, Third}
 use Rattle.values.specs.declared.notice.Notice.{Notice}

@@ -4,19 +4,19 @@ ghost use Rattle.std.specs.declared.option.Option.the-variants.{Some};
 ghost use Rattle.values.specs.Making.{Made};
 ghost use Rattle.values.specs.Texts.{baseline-text};
 ghost use mathlib.Core.Path.{_≡_};
-use super::bounded::BoundedDebug;
-use super::bounded::BoundedDisplay;
-use super::bounded::BoundedPartialEq;
-use super::bounded::Day;
-use super::component::Component;
-use super::component::ComponentDebug;
-use super::component::ComponentDisplay;
-use super::component::ComponentPartialEq;
 use super::fault::Part;
 use super::fault::ValueFault;
 use super::value::Payloads;
 use super::value::Value;
 use numbers::tenths::Tenths;
+use parts::bounded::BoundedDebug;
+use parts::bounded::BoundedDisplay;
+use parts::bounded::BoundedPartialEq;
+use parts::bounded::Day;
+use parts::component::Component;
+use parts::component::ComponentDebug;
+use parts::component::ComponentDisplay;
+use parts::component::ComponentPartialEq;
 use std::fmt;
 
 /// A baseline: the components X, Y and Z in tenths of a nanotesla, and the day count.

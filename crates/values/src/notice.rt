@@ -4,16 +4,16 @@ ghost use Rattle.values.specs.Making.{Made};
 ghost use Rattle.values.specs.Notices.{coded-notice, in-service-out, IsInService, IsWithdrawn, withdrawn-out};
 ghost use Rattle.values.specs.Texts.{notice-text};
 ghost use Rattle.values.specs.declared.notice.Notice.the-variants.{NoneInService};
-use super::bounded::BoundedDebug;
-use super::bounded::BoundedDisplay;
-use super::bounded::BoundedPartialEq;
-use super::bounded::Day;
-use super::bounded::Reason;
-use super::bounded::Serial;
 use super::fault::Part;
 use super::fault::ValueFault;
 use super::value::Payloads;
 use super::value::Value;
+use parts::bounded::BoundedDebug;
+use parts::bounded::BoundedDisplay;
+use parts::bounded::BoundedPartialEq;
+use parts::bounded::Day;
+use parts::bounded::Reason;
+use parts::bounded::Serial;
 use std::fmt;
 
 /// A notice: none in service, or the serial number in service or withdrawn, with its day, and for a withdrawal

@@ -1,6 +1,6 @@
 use mathlib.Core.Path.{_≡_}
 use Rattle.values.specs.Baselines.{blank-baseline}
-use Rattle.values.proofs.Same.{bounded-same, component-same}
+use Rattle.parts.proofs.Same.{bounded-same, component-same}
 use Rattle.values.proofs.baseline.BaselineValue.blank.Needs as need
 
 pub returns : need.returns

@@ -5,9 +5,9 @@ use mathlib.Core.HLevel.{isProp→PathP}
 use mathlib.Core.Path.{_≡_, ap}
 use denote.Struct.Props.{props}
 use lib.IntN.{ℤ}
-use Rattle.values.specs.Parts.{component-in}
-use Rattle.values.specs.declared.bounded.Bounded.{Bounded}
-use Rattle.values.specs.declared.component.Component.{Component}
+use Rattle.parts.specs.Parts.{component-in}
+use Rattle.parts.specs.declared.bounded.Bounded.{Bounded}
+use Rattle.parts.specs.declared.component.Component.{Component}
 
 pub component-same : (a b : Component) → a .tenths .0 ≡ b .tenths .0 → a ≡ b
 component-same a b e = λ i.

@@ -2,7 +2,7 @@
 ghost use Rattle.numbers.specs.Written.{tenths-text};
 ghost use Rattle.std.specs.Options.{Cases};
 ghost use Rattle.std.specs.declared.option.Option.the-variants.{Some};
-ghost use Rattle.values.specs.Parts.{component-in, component-payload};
+ghost use Rattle.parts.specs.Parts.{component-in, component-payload};
 ghost use lib.IntN.{ℤ, pos};
 ghost use mathlib.Core.Bool.{false, true};
 ghost use mathlib.Core.Path.{_≡_};

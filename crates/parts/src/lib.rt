@@ -1,0 +1,3 @@
+//! The parts of values: numbers and components of the field that are in their range by their type.
+pub mod bounded;
+pub mod component;
