@@ -28,7 +28,7 @@ kept n s c = is-copy n c && s c
 pub grow-within : (n : ℕ) (family : Copies → Bool) → ((s t : Copies) → Agree n s t → family s ≡ family t) → ((s t : Copies) → Inside s t → T (family s) → T (family t)) → (s t : Copies) → Within n s t → T (family s) → T (family t)
 grow-within n family local grow s t w h =
     grow (kept n s) t (λ c k. w c (and-left (is-copy n c) _ k) (and-right (is-copy n c) _ k))
-      (subst T (local s (kept n s) (λ c i. sym (and-true (is-copy n c) (s c) i))) h)
+    (subst T (local s (kept n s) (λ c i. sym (and-true (is-copy n c) (s c) i))) h)
 
 pub outside-same : (n : ℕ) (s : Copies) → Agree n (λ c. not (s c)) (outside n s)
 outside-same n s c i = sym (and-true (is-copy n c) (not (s c)) i)
@@ -41,5 +41,5 @@ choose-listed m q local reach (Some l) v =
     record {
       clean = marks-clean n (among l);
       in-reach = λ c i k. v .0 c (subst T (same c i) k);
-      enough = subst T (sym (local (marked n (marks n (among l))) (among l) same)) (v .1)
+      enough = subst T (sym (local (marked n (marks n (among l))) (among l) same)) (v .1);
     }

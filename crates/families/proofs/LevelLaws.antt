@@ -153,10 +153,11 @@ level-serves q d (suc h) s = step q (level-choice q d h s) (half-choice s (level
     step : (q : Quorum) (x y : Option (List ℕ)) → Serves (level-holds q d h) s x → Serves (λ t. half-held t (level d (suc h))) s y → Serves (level-holds q d (suc h)) s (choice-joined q x y)
     step Write None y v w = rw v refl
     step Write (Some l) None v w = rw w (and-false (level-holds Write d h s))
-    step Write (Some l) (Some m) v w =
-        (both-inside l m s (v .0) (w .0),
-         and-both (level-holds Write d h (among (l ++ m))) _ (level-grow Write d h (among l) (among (l ++ m)) (among-left l m) (v .1))
-           (half-grow (among m) (among (l ++ m)) (among-right l m) (level d (suc h)) (w .1)))
+    step Write (Some l) (Some m) v w = (
+      both-inside l m s (v .0) (w .0),
+      and-both (level-holds Write d h (among (l ++ m))) _ (level-grow Write d h (among l) (among (l ++ m)) (among-left l m) (v .1))
+          (half-grow (among m) (among (l ++ m)) (among-right l m) (level d (suc h)) (w .1)),
+    )
     step Read None None v w = rw (v, w) refl
     step Read None (Some m) v w = (w .0, or-right (level-holds Read d h (among m)) _ (w .1))
     step Read (Some l) y v w = (v .0, or-left (level-holds Read d h (among l)) _ (v .1))
@@ -167,10 +168,10 @@ module _ (d h : ℕ) where
 
   pub levels-lawful : copies-of d h ≤ 64 → Lawful (levels-rule d h)
   levels-lawful small = record {
-      sized = (at-most-last d h 1, small);
-      dual = λ s. read-or-write d h s ∙ ap not (local Write (λ c. not (s c)) (outside (copies-of d h) s) (outside-same (copies-of d h) s));
-      meet = λ s t v w. (1, copy-from (copies-of d h) 1 (omega arith) (at-most-last d h 1), root-written d h s v, root-written d h t w);
-      grow = λ q. grow-within (copies-of d h) (level-holds q d h) (local q) (level-grow q d h);
-      all = all-write d h;
-      choose = λ q reach. choose-listed (levels-rule d h) q (local q) reach (level-choice q d h (marked (copies-of d h) reach)) (level-serves q d h (marked (copies-of d h) reach))
-    }
+    sized = (at-most-last d h 1, small);
+    dual = λ s. read-or-write d h s ∙ ap not (local Write (λ c. not (s c)) (outside (copies-of d h) s) (outside-same (copies-of d h) s));
+    meet = λ s t v w. (1, copy-from (copies-of d h) 1 (omega arith) (at-most-last d h 1), root-written d h s v, root-written d h t w);
+    grow = λ q. grow-within (copies-of d h) (level-holds q d h) (local q) (level-grow q d h);
+    all = all-write d h;
+    choose = λ q reach. choose-listed (levels-rule d h) q (local q) reach (level-choice q d h (marked (copies-of d h) reach)) (level-serves q d h (marked (copies-of d h) reach));
+  }

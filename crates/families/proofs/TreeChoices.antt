@@ -34,10 +34,11 @@ module _ (hold : Copies → ℕ → Bool) (grow : (s t : Copies) (c : ℕ) → I
 
   enough-take : (k c : ℕ) (row l : List ℕ) (y : Option (List ℕ)) → Inside (among l) s → T (hold (among l) c) → Enough hold s k row y → Enough hold s (suc k) (c ∷ row) (with-copies l y)
   enough-take k c row l None w t n = one-more (hold s c) _ _ n
-  enough-take k c row l (Some m) w t n =
-      (both-inside l m s w (n .0),
-       one-if-grow true (hold (among (l ++ m)) c) k _ (λ _. grow (among l) (among (l ++ m)) c (among-left l m) t)
-         (le-trans (n .1) (count-grow (hold (among m)) (hold (among (l ++ m))) (λ x. grow (among m) (among (l ++ m)) x (among-right l m)) row)))
+  enough-take k c row l (Some m) w t n = (
+    both-inside l m s w (n .0),
+    one-if-grow true (hold (among (l ++ m)) c) k _ (λ _. grow (among l) (among (l ++ m)) c (among-left l m) t)
+        (le-trans (n .1) (count-grow (hold (among m)) (hold (among (l ++ m))) (λ x. grow (among m) (among (l ++ m)) x (among-right l m)) row)),
+  )
 
   module _ (f : ℕ → Option (List ℕ)) (serves : (c : ℕ) → Serves (λ t. hold t c) s (f c)) where
     enough-step : (k c : ℕ) (row : List ℕ) (x : Option (List ℕ)) → Serves (λ t. hold t c) s x → Enough hold s (suc k) row (gather f (suc k) row) → Enough hold s k row (gather f k row) → Enough hold s (suc k) (c ∷ row) (elim x [ None ↦ gather f (suc k) row | Some l ↦ with-copies l (gather f k row) ])
@@ -67,10 +68,11 @@ choice-serves Write d (suc h) s c =
   where
     enough : (y : Option (List ℕ)) → s c ≡ true → Enough (λ t x. holds Write d h t x) s (suc d) (children d c) y → Serves (λ t. holds Write d (suc h) t c) s (with-copies (c ∷ []) y)
     enough None e n = rw (e, below-false (suc d) _ n) refl
-    enough (Some l) e n =
-        (both-inside (c ∷ []) l s (only-inside s c (rw e tt)) (n .0),
-         and-both (among (c ∷ l) c) _ (among-itself c l)
-           (le→leb (suc d) _ (le-trans (n .1) (count-grow (holds Write d h (among l)) (holds Write d h (among (c ∷ l))) (λ x. holds-grow Write d h (among l) (among (c ∷ l)) x (among-right (c ∷ []) l)) (children d c)))))
+    enough (Some l) e n = (
+      both-inside (c ∷ []) l s (only-inside s c (rw e tt)) (n .0),
+      and-both (among (c ∷ l) c) _ (among-itself c l)
+          (le→leb (suc d) _ (le-trans (n .1) (count-grow (holds Write d h (among l)) (holds Write d h (among (c ∷ l))) (λ x. holds-grow Write d h (among l) (among (c ∷ l)) x (among-right (c ∷ []) l)) (children d c)))),
+    )
 
     node : (b : Bool) → s c ≡ b → (y : Option (List ℕ)) → Enough (λ t x. holds Write d h t x) s (suc d) (children d c) y → Serves (λ t. holds Write d (suc h) t c) s (elim b [ true ↦ with-copies (c ∷ []) y | false ↦ None ])
     node true e y n = enough y e n

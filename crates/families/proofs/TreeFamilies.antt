@@ -76,8 +76,8 @@ module _ (d c : ℕ) (from-one : 0 < c) where
   pub children-in : All IsChild (children d c)
   children-in =
       let g : (2 * d + 1) * c ≡ (2 * d + 1) * (c - 1) + (2 * d + 1) =
-        let e : c ≡ suc (c - 1) = omega arith in
-        ap (λ n. (2 * d + 1) * n) e ∙ mul-suc (2 * d + 1) (c - 1)
+      let e : c ≡ suc (c - 1) = omega arith in
+      ap (λ n. (2 * d + 1) * n) e ∙ mul-suc (2 * d + 1) (c - 1)
       in
       run-in ((2 * d + 1) * (c - 1) + 2) (2 * d + 1) (omega arith) (omega arith)
 
@@ -91,7 +91,7 @@ holds-same q d zero s t c p e = e c p (omega arith)
 holds-same q d (suc h) s t c p e =
     let root : s c ≡ t c = e c p (at-most-last d (suc h) c) in
     let row : All (λ x. holds q d h s x ≡ holds q d h t x) (children d c) =
-      all-map (λ x i. holds-same q d h s t x (i .0) (λ y l k. e y l (omega (arith, last-grows d h x ((2 * d + 1) * c + 1) (i .1)))))
-        (children d c) (children-in d c p) in
+    all-map (λ x i. holds-same q d h s t x (i .0) (λ y l k. e y l (omega (arith, last-grows d h x ((2 * d + 1) * c + 1) (i .1)))))
+    (children d c) (children-in d c p) in
     ap (λ b. joined q b (most d (holds q d h s) c)) root
     ∙ ap (λ n. joined q (t c) (leb (suc d) n)) (count-same (holds q d h s) (holds q d h t) (children d c) row)

@@ -19,10 +19,10 @@ module _ (d h : ℕ) where
 
   pub tree-lawful : copies-of d h ≤ 64 → Lawful (tree-rule d h)
   tree-lawful small = record {
-      sized = (at-most-last d h 1, small);
-      dual = λ s. read-or-write d h s 1 ∙ ap not (tree-local Write (λ c. not (s c)) (outside (copies-of d h) s) (outside-same (copies-of d h) s));
-      meet = λ s t v w. (1, copy-from (copies-of d h) 1 (omega arith) (at-most-last d h 1), root-written d h s 1 v, root-written d h t 1 w);
-      grow = λ q. grow-within (copies-of d h) (λ s. holds q d h s 1) (tree-local q) (λ s t i. holds-grow q d h s t 1 i);
-      all = all-write d h 1;
-      choose = λ q reach. choose-listed (tree-rule d h) q (tree-local q) reach (choice q d h (marked (copies-of d h) reach) 1) (choice-serves q d h (marked (copies-of d h) reach) 1)
-    }
+    sized = (at-most-last d h 1, small);
+    dual = λ s. read-or-write d h s 1 ∙ ap not (tree-local Write (λ c. not (s c)) (outside (copies-of d h) s) (outside-same (copies-of d h) s));
+    meet = λ s t v w. (1, copy-from (copies-of d h) 1 (omega arith) (at-most-last d h 1), root-written d h s 1 v, root-written d h t 1 w);
+    grow = λ q. grow-within (copies-of d h) (λ s. holds q d h s 1) (tree-local q) (λ s t i. holds-grow q d h s t 1 i);
+    all = all-write d h 1;
+    choose = λ q reach. choose-listed (tree-rule d h) q (tree-local q) reach (choice q d h (marked (copies-of d h) reach) 1) (choice-serves q d h (marked (copies-of d h) reach) 1);
+  }

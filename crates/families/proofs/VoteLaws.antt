@@ -135,15 +135,16 @@ module _ (votes : List ℕ) (w : ℕ) where
 
     meet : (s t : Copies) → T (votes-hold Write votes w s) → T (votes-hold Write votes w t) → Shared (length votes) s t
     meet s t h k = elim (shared-or (length votes) 1 votes s t (omega arith) (omega arith)) [
-        inl shared ↦ shared
-      | inr few ↦ absurd (omega (arith, few, ok .over-half, leb→le w (votes-of votes s) h, leb→le w (votes-of votes t) k)) ]
+      | inl shared ↦ shared
+      | inr few ↦ absurd (omega (arith, few, ok .over-half, leb→le w (votes-of votes s) h, leb→le w (votes-of votes t) k))
+    ]
 
     pub votes-lawful : Lawful (votes-rule votes w)
     votes-lawful = record {
-        sized = (ok .some, ok .few);
-        dual = λ s. read-or-write s ∙ ap not (local Write (λ c. not (s c)) (outside (length votes) s) (outside-same (length votes) s));
-        meet = meet;
-        grow = λ q. grow-within (length votes) (votes-hold q votes w) (local q) (grow q);
-        all = le→leb w (total votes) (ok .reachable);
-        choose = λ q reach. choose-listed (votes-rule votes w) q (local q) reach (votes-choice (threshold q votes w) 1 votes (marked (length votes) reach)) (votes-serve q votes w (marked (length votes) reach))
-      }
+      sized = (ok .some, ok .few);
+      dual = λ s. read-or-write s ∙ ap not (local Write (λ c. not (s c)) (outside (length votes) s) (outside-same (length votes) s));
+      meet = meet;
+      grow = λ q. grow-within (length votes) (votes-hold q votes w) (local q) (grow q);
+      all = le→leb w (total votes) (ok .reachable);
+      choose = λ q reach. choose-listed (votes-rule votes w) q (local q) reach (votes-choice (threshold q votes w) 1 votes (marked (length votes) reach)) (votes-serve q votes w (marked (length votes) reach));
+    }

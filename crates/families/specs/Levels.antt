@@ -63,7 +63,7 @@ level-choice q d (suc h) s = choice-joined q (level-choice q d h s) (half-choice
 -- the rule of the levels
 abbrev pub levels-rule : ℕ → ℕ → Meaning
 levels-rule d h = record {
-    n = copies-of d h;
-    holds = λ q s. level-holds q d h s;
-    choice = λ q reach. mapped (λ l. marks (copies-of d h) (among l)) (level-choice q d h (marked (copies-of d h) reach))
-  }
+  n = copies-of d h;
+  holds = λ q s. level-holds q d h s;
+  choice = λ q reach. mapped (λ l. marks (copies-of d h) (among l)) (level-choice q d h (marked (copies-of d h) reach));
+}

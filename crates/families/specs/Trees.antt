@@ -77,7 +77,7 @@ choice Read d (suc h) s c =
 -- the rule of the tree
 abbrev pub tree-rule : ℕ → ℕ → Meaning
 tree-rule d h = record {
-    n = copies-of d h;
-    holds = λ q s. holds q d h s 1;
-    choice = λ q reach. mapped (λ l. marks (copies-of d h) (among l)) (choice q d h (marked (copies-of d h) reach) 1)
-  }
+  n = copies-of d h;
+  holds = λ q s. holds q d h s 1;
+  choice = λ q reach. mapped (λ l. marks (copies-of d h) (among l)) (choice q d h (marked (copies-of d h) reach) 1);
+}

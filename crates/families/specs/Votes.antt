@@ -50,7 +50,7 @@ pub record Allowed (votes : List ℕ) (w : ℕ) : Type 0 where
 -- the rule of the votes
 abbrev pub votes-rule : List ℕ → ℕ → Meaning
 votes-rule votes w = record {
-    n = length votes;
-    holds = λ q s. votes-hold q votes w s;
-    choice = λ q reach. mapped (λ l. marks (length votes) (among l)) (votes-choice (threshold q votes w) 1 votes (marked (length votes) reach))
-  }
+  n = length votes;
+  holds = λ q s. votes-hold q votes w s;
+  choice = λ q reach. mapped (λ l. marks (length votes) (among l)) (votes-choice (threshold q votes w) 1 votes (marked (length votes) reach));
+}

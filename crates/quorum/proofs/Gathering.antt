@@ -1,0 +1,129 @@
+-- What a row has given so far, and a choice from the choices below.
+use mathlib.Core.Path.{_≡_, refl, sym, _∙_, ap, subst}
+use mathlib.Core.Bool.{Bool, true, false, not, _||_}
+use mathlib.Core.List.{List, [], _∷_, _++_, append-assoc}
+use Prim.Native.Nat.{ℕ, zero, suc, _+_, _-_, _<_, _≤_}
+use native.Mathlib.Omega.{arith}
+use lib.Dec.{eqb}
+use lib.ListN.{length, getD, drop}
+use Rattle.std.specs.declared.option.Option.{Option}
+use Rattle.std.specs.declared.option.Option.the-variants.{Some, None}
+use Rattle.std.proofs.shelf.Lists.{append-nil}
+use Rattle.families.specs.Copies.{Copies, among}
+use Rattle.families.specs.Trees.{children, choice, gather, near-first, with-copies}
+use Rattle.quorum.specs.declared.copy_set.CopySet.{CopySet}
+use Rattle.quorum.specs.Sets.{Is, Same, members}
+use Rattle.families.specs.declared.Quorum.{Quorum}
+use Rattle.families.specs.declared.Quorum.the-variants.{Read, Write}
+
+-- what an optional set says of the choice
+pub is-none : (x : Option (List ℕ)) → Is None x → x ≡ None
+is-none None i = refl
+is-none (Some l) i = absurd i
+
+pub record Chose (s : CopySet) (x : Option (List ℕ)) : Type 0 where
+  pub copies : List ℕ
+  pub is : x ≡ Some copies
+  pub same : Same (members s) (among copies)
+
+pub is-some : (s : CopySet) (x : Option (List ℕ)) → Is (Some s) x → Chose s x
+is-some s None i = absurd i
+is-some s (Some l) i = record { copies = l; is = refl; same = i }
+
+or-assoc : (a b c : Bool) → ((a || b) || c) ≡ (a || (b || c))
+or-assoc true b c = refl
+or-assoc false b c = refl
+
+among-append : (l m : List ℕ) (k : ℕ) → among (l ++ m) k ≡ (among l k || among m k)
+among-append [] m k = refl
+among-append (x ∷ l) m k = ap (λ b. eqb x k || b) (among-append l m k) ∙ sym (or-assoc (eqb x k) (among l k) (among m k))
+
+with-none : (x : Option (List ℕ)) → with-copies [] x ≡ x
+with-none None = refl
+with-none (Some l) = refl
+
+with-both : (l m : List ℕ) (x : Option (List ℕ)) → with-copies l (with-copies m x) ≡ with-copies (l ++ m) x
+with-both l m None = refl
+with-both l m (Some n) = ap Some (sym (append-assoc l m n))
+
+-- The set has the choices that the row has given, and what is wanted still comes from the rest.
+pub record Gathered (f : ℕ → Option (List ℕ)) (k : ℕ) (row : List ℕ) (s : CopySet) (wanted : ℕ) (rest : List ℕ) : Type 0 where
+  pub copies : List ℕ
+  pub same : Same (members s) (among copies)
+  pub left : gather f k row ≡ with-copies copies (gather f wanted rest)
+
+module _ (f : ℕ → Option (List ℕ)) (k : ℕ) (row : List ℕ) where
+  pub gathered-none : (s : CopySet) → ((c : ℕ) → members s c ≡ false) → Gathered f k row s k row
+  gathered-none s e = record { copies = []; same = e; left = sym (with-none (gather f k row)) }
+
+  -- no more are wanted
+  pub gathered-done : (s : CopySet) (w : ℕ) (c : ℕ) (rest : List ℕ) → w ≡ 0 → Gathered f k row s w (c ∷ rest) → Gathered f k row s w rest
+  gathered-done s w c rest e g = record { copies = g .copies; same = g .same; left = g .left ∙ rw e refl }
+
+  gather-skip : (w : ℕ) (c : ℕ) (rest : List ℕ) → f c ≡ None → gather f w (c ∷ rest) ≡ gather f w rest
+  gather-skip zero c rest e = refl
+  gather-skip (suc w) c rest e = rw (e, gather) refl
+
+  gather-take : (w : ℕ) (c : ℕ) (rest m : List ℕ) → f c ≡ Some m → gather f (suc w) (c ∷ rest) ≡ with-copies m (gather f w rest)
+  gather-take w c rest m e = rw (e, gather) refl
+
+  pub gathered-skip : (s : CopySet) (w : ℕ) (c : ℕ) (rest : List ℕ) → Is None (f c) → Gathered f k row s w (c ∷ rest) → Gathered f k row s w rest
+  gathered-skip s w c rest i g =
+      record { copies = g .copies; same = g .same; left = g .left ∙ ap (with-copies (g .copies)) (gather-skip w c rest (is-none (f c) i)) }
+
+  pub gathered-take : (s b s′ : CopySet) (w w′ : ℕ) (c : ℕ) (rest : List ℕ) → Is (Some b) (f c) → w ≡ suc w′ → ((x : ℕ) → members s′ x ≡ (members s x || members b x)) → Gathered f k row s w (c ∷ rest) → Gathered f k row s′ w′ rest
+  gathered-take s b s′ w w′ c rest i e u g =
+      let h = is-some b (f c) i in
+      record {
+        copies = g .copies ++ h .copies;
+        same =
+            λ x. u x ∙ rw (g .same x, h .same x) (sym (among-append (g .copies) (h .copies) x));
+        left =
+            g .left ∙ rw e (ap (with-copies (g .copies)) (gather-take w′ c rest (h .copies) (h .is)))
+            ∙ with-both (g .copies) (h .copies) (gather f w′ rest);
+      }
+
+  pub gathered-all : (s : CopySet) (w : ℕ) → w ≡ 0 → Gathered f k row s w [] → Is (Some s) (gather f k row)
+  gathered-all s w e g =
+      let l : gather f k row ≡ Some (g .copies) = g .left ∙ rw e (ap Some (append-nil (g .copies))) in
+      rw l (g .same)
+
+  pub gathered-too-few : (s : CopySet) (w : ℕ) → 0 < w → Gathered f k row s w [] → Is None (gather f k row)
+  gathered-too-few s zero p g = absurd (omega arith)
+  gathered-too-few s (suc w) p g = rw (g .left) tt
+
+-- A copy's choice.
+module _ (d h h′ : ℕ) (s : Copies) (c : ℕ) (e : h ≡ suc h′) where
+  pub read-here : (r : CopySet) → s c ≡ true → Same (members r) (among (c ∷ [])) → Is (Some r) (choice Read d h s c)
+  read-here r t m = rw (e, t, choice) m
+
+  pub read-away : (r : Option CopySet) → s c ≡ false → Is r (gather (choice Read d h′ s) (suc d) (near-first s (children d c))) → Is r (choice Read d h s c)
+  read-away r t i = rw (e, t, choice) i
+
+  pub write-away : s c ≡ false → Is None (choice Write d h s c)
+  write-away t = rw (e, t, choice) tt
+
+  pub write-none : s c ≡ true → Is None (gather (choice Write d h′ s) (suc d) (children d c)) → Is None (choice Write d h s c)
+  write-none t i = rw (e, t, is-none _ i, choice) tt
+
+  pub write-here : (r r′ : CopySet) → s c ≡ true → Is (Some r) (gather (choice Write d h′ s) (suc d) (children d c)) → ((x : ℕ) → members r′ x ≡ (eqb c x || members r x)) → Is (Some r′) (choice Write d h s c)
+  write-here r r′ t i u =
+      let g = is-some r _ i in
+      rw (e, t, g .is, choice) (λ x. u x ∙ ap (λ b. eqb c x || b) (g .same x))
+
+-- The same, of a quorum that is known to be the one or the other.
+module _ (q : Quorum) (d h h′ : ℕ) (s : Copies) (c : ℕ) (e : h ≡ suc h′) where
+  pub reading-here : (r : CopySet) → q ≡ Read → s c ≡ true → Same (members r) (among (c ∷ [])) → Is (Some r) (choice q d h s c)
+  reading-here r k t m = rw k (read-here d h h′ s c e r t m)
+
+  pub reading-away : (r : Option CopySet) (row : List ℕ) → q ≡ Read → s c ≡ false → row ≡ near-first s (children d c) → Is r (gather (choice q d h′ s) (suc d) row) → Is r (choice q d h s c)
+  reading-away r row k t l i = rw k (read-away d h h′ s c e r t (rw (k, l) at i))
+
+  pub writing-away : q ≡ Write → s c ≡ false → Is None (choice q d h s c)
+  writing-away k t = rw k (write-away d h h′ s c e t)
+
+  pub writing-none : (row : List ℕ) → q ≡ Write → s c ≡ true → row ≡ children d c → Is None (gather (choice q d h′ s) (suc d) row) → Is None (choice q d h s c)
+  writing-none row k t l i = rw k (write-none d h h′ s c e t (rw (k, l) at i))
+
+  pub writing-here : (row : List ℕ) (r r′ : CopySet) → q ≡ Write → s c ≡ true → row ≡ children d c → Is (Some r) (gather (choice q d h′ s) (suc d) row) → ((x : ℕ) → members r′ x ≡ (eqb c x || members r x)) → Is (Some r′) (choice q d h s c)
+  writing-here row r r′ k t l i u = rw k (write-here d h h′ s c e r r′ t (rw (k, l) at i) u)

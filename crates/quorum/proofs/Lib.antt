@@ -1,0 +1,7 @@
+mod Fitting
+mod Gathering
+mod Given
+mod Marked
+mod Marking
+mod RowProofs
+mod Shaping

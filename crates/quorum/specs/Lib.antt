@@ -1,0 +1,5 @@
+pub mod Choosing
+pub mod Faults
+pub mod Rows
+pub mod Sets
+pub mod Shapes

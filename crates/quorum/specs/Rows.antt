@@ -1,0 +1,7 @@
+-- Subtrees whose copies all are below 64.
+use Prim.Native.Nat.{ℕ, _<_}
+use Rattle.families.specs.Trees.{last-copy}
+
+pub record Fits (d h c : ℕ) : Type 0 where
+  pub from-one : 0 < c
+  pub to-last : last-copy d h c < 64
