@@ -3,7 +3,7 @@ use Prim.Native.Nat.{ℕ, suc, zero, _*_, _+_, _-_, _/_, _<_, _≤_}
 use mathlib.Core.Bool.{Bool, false, not, true, _&&_, _||_}
 use mathlib.Core.List.{List, [], _∷_, _++_}
 use mathlib.Core.Path.{_≡_, refl, sym, ap, subst, _∙_}
-use native.Mathlib.Nat.{le-trans, mul-add, mul-left-comm, mul-suc}
+use native.Mathlib.Nat.{add-zero, le-trans, mul-add, mul-left-comm, mul-suc}
 use native.Mathlib.Omega.{arith}
 use lib.Dec.{T, leb, leb→le, le→leb}
 use lib.ListN.{length}
@@ -40,7 +40,7 @@ level-odd d (suc k) =
 
 -- where a level is
 
-level-first-from-one : (d k : ℕ) → 1 ≤ level-first d k
+pub level-first-from-one : (d k : ℕ) → 1 ≤ level-first d k
 level-first-from-one d zero = omega arith
 level-first-from-one d (suc k) = omega arith
 
@@ -60,6 +60,18 @@ level-end d (suc k) =
 
 last-rises : (d h : ℕ) → last-copy d h 1 ≤ last-copy d (suc h) 1
 last-rises d h = omega (arith, last-below d h 1, odd-times d (last-copy d h 1))
+
+last-mono : (d k j : ℕ) → last-copy d k 1 ≤ last-copy d (k + j) 1
+last-mono d k zero = rw add-zero (omega arith)
+last-mono d k (suc j) =
+    let e : k + suc j ≡ suc (k + j) = omega arith in
+    rw e (le-trans (last-mono d k j) (last-rises d (k + j)))
+
+-- a level ends no later than the tree
+pub level-bounds : (d k h : ℕ) → k ≤ h → level-first d k + level-size d k ≤ last-copy d h 1 + 1
+level-bounds d k h l =
+    let e : k + (h - k) ≡ h = omega arith in
+    omega (arith, level-end d k, rw e at (last-mono d k (h - k)))
 
 run-in : (n a m : ℕ) → 1 ≤ a → a + m ≤ n + 1 → All (λ c. T (is-copy n c)) (counting a m)
 run-in n a zero p l = tt

@@ -13,11 +13,11 @@ use Rattle.families.specs.Copies.{Copies}
 use Rattle.families.specs.Trees.{children, last-copy, near-first}
 use Rattle.quorum.specs.Rows.{Fits}
 
-pub copy-marked : (d h c : ℕ) → Fits d h c → c < 64
+pub copy-marked : (d h c : ℕ) → Fits d h c → c < 65
 copy-marked d h c f = omega (arith, at-most-last d h c, f .to-last)
 
 module _ (d h h′ c : ℕ) (e : h ≡ suc h′) (f : Fits d h c) where
-  pub last-child-marked : (2 * d + 1) * c + 1 < 64
+  pub last-child-marked : (2 * d + 1) * c + 1 < 65
   last-child-marked = copy-marked d h′ ((2 * d + 1) * c + 1) (record { from-one = omega arith; to-last = rw e at (f .to-last) })
 
   child-fits : (x : ℕ) → 0 < x → x ≤ (2 * d + 1) * c + 1 → Fits d h′ x
@@ -25,7 +25,7 @@ module _ (d h h′ c : ℕ) (e : h ≡ suc h′) (f : Fits d h c) where
       record {
         from-one = p;
         to-last =
-            let t : last-copy d h′ ((2 * d + 1) * c + 1) < 64 = rw e at (f .to-last) in
+            let t : last-copy d h′ ((2 * d + 1) * c + 1) < 65 = rw e at (f .to-last) in
             omega (arith, last-grows d h′ x ((2 * d + 1) * c + 1) l);
       }
 

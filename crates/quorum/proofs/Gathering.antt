@@ -10,9 +10,10 @@ use Rattle.std.specs.declared.option.Option.{Option}
 use Rattle.std.specs.declared.option.Option.the-variants.{Some, None}
 use Rattle.std.proofs.shelf.Lists.{append-nil}
 use Rattle.families.specs.Copies.{Copies, among}
+use Rattle.families.specs.Levels.{choice-joined}
 use Rattle.families.specs.Trees.{children, choice, gather, near-first, with-copies}
 use Rattle.quorum.specs.declared.copy_set.CopySet.{CopySet}
-use Rattle.quorum.specs.Sets.{Is, Same, members}
+use Rattle.quorum.specs.Sets.{Is, Joins, Same, members}
 use Rattle.families.specs.declared.Quorum.{Quorum}
 use Rattle.families.specs.declared.Quorum.the-variants.{Read, Write}
 
@@ -83,6 +84,21 @@ module _ (f : ℕ → Option (List ℕ)) (k : ℕ) (row : List ℕ) where
             ∙ with-both (g .copies) (h .copies) (gather f w′ rest);
       }
 
+  or-turned : (a b : Bool) → (a || b) ≡ (b || (a || false))
+  or-turned true true = refl
+  or-turned true false = refl
+  or-turned false true = refl
+  or-turned false false = refl
+
+  -- a copy that is its own choice
+  pub gathered-one : (s s′ : CopySet) (w w′ : ℕ) (c : ℕ) (rest : List ℕ) → f c ≡ Some (c ∷ []) → w ≡ suc w′ → ((x : ℕ) → members s′ x ≡ (eqb c x || members s x)) → Gathered f k row s w (c ∷ rest) → Gathered f k row s′ w′ rest
+  gathered-one s s′ w w′ c rest i e u g =
+      record {
+        copies = g .copies ++ (c ∷ []);
+        same = λ x. u x ∙ ap (λ b. eqb c x || b) (g .same x) ∙ or-turned (eqb c x) (among (g .copies) x) ∙ sym (among-append (g .copies) (c ∷ []) x);
+        left = g .left ∙ rw e (ap (with-copies (g .copies)) (gather-take w′ c rest (c ∷ []) i)) ∙ with-both (g .copies) (c ∷ []) (gather f w′ rest);
+      }
+
   pub gathered-all : (s : CopySet) (w : ℕ) → w ≡ 0 → Gathered f k row s w [] → Is (Some s) (gather f k row)
   gathered-all s w e g =
       let l : gather f k row ≡ Some (g .copies) = g .left ∙ rw e (ap Some (append-nil (g .copies))) in
@@ -127,3 +143,14 @@ module _ (q : Quorum) (d h h′ : ℕ) (s : Copies) (c : ℕ) (e : h ≡ suc h�
 
   pub writing-here : (row : List ℕ) (r r′ : CopySet) → q ≡ Write → s c ≡ true → row ≡ children d c → Is (Some r) (gather (choice q d h′ s) (suc d) row) → ((x : ℕ) → members r′ x ≡ (eqb c x || members r x)) → Is (Some r′) (choice q d h s c)
   writing-here row r r′ k t l i u = rw k (write-here d h h′ s c e r r′ t (rw (k, l) at i) u)
+
+-- Two choices joined for writing.
+pub joined-write : (one other r : Option CopySet) (x y : Option (List ℕ)) → Joins one other r → Is one x → Is other y → Is r (choice-joined Write x y)
+joined-write None other r None y j i k = rw j tt
+joined-write None other r (Some l) y j i k = absurd i
+joined-write (Some s) other r None y j i k = absurd i
+joined-write (Some s) None r (Some l) None j i k = rw j tt
+joined-write (Some s) None r (Some l) (Some m) j i k = absurd k
+joined-write (Some s) (Some t) r (Some l) None j i k = absurd k
+joined-write (Some s) (Some t) None (Some l) (Some m) j i k = absurd j
+joined-write (Some s) (Some t) (Some r) (Some l) (Some m) j i k = λ c. j c ∙ rw (i c, k c) (sym (among-append l m c))

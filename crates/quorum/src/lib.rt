@@ -1,6 +1,7 @@
 //! Quorum rules: which copies a reading or a writing takes.
 pub mod copy_set;
 pub mod fault;
+pub mod level_rule;
 mod marks;
 pub mod rule;
 pub mod tree;

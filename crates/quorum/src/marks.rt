@@ -14,7 +14,7 @@ use families::Quorum;
 
 /// The copies whose marks are not 0.
 pub(crate) fn marked_set(reach: &[u8]) -> CopySet
-    requires { ⌜ length (now reach) < 64 ⌝ }
+    requires { ⌜ length (now reach) < 65 ⌝ }
     ensures { λ r. ⌜ Same (members r) (marked (length (now (reach .entry))) (now (reach .entry))) ⌝ }
 {
     let mut set = CopySet::empty();
@@ -28,7 +28,7 @@ pub(crate) fn marked_set(reach: &[u8]) -> CopySet
 
 /// Writes 1 for each copy of the set, and 0 for the rest.
 pub(crate) fn fill_marks(set: &CopySet, choice: &mut [u8])
-    requires { ⌜ length (now choice) < 64 ⌝ }
+    requires { ⌜ length (now choice) < 65 ⌝ }
     ensures { λ _. ⌜ now (choice .exit) ≡ marks (length (now (choice .entry))) (members (now (set .entry))) ⌝ }
 {
     for (i, mark) in choice.iter_mut().enumerate() {
@@ -54,7 +54,7 @@ pub(crate) fn give(
     set: Option<CopySet>,
     choice: &mut [u8],
 ) -> Result<Chosen, RuleFault>
-    requires { ⌜ length (now choice) < 64 ⌝ }
+    requires { ⌜ length (now choice) < 65 ⌝ }
     ensures { λ r. ⌜ Gives quorum set (now (choice .entry)) (now (choice .exit)) r ⌝ }
 {
     match set {

@@ -22,7 +22,7 @@ use families::Quorum;
 
 /// The children of a copy, by number.
 fn by_number(half: usize, copy: usize) -> [usize; 9]
-    requires { ⌜ half ≤ 4 ⌝ ∗ ⌜ 0 < copy ⌝ ∗ ⌜ copy < 64 ⌝ }
+    requires { ⌜ half ≤ 4 ⌝ ∗ ⌜ 0 < copy ⌝ ∗ ⌜ copy < 65 ⌝ }
     ensures { λ r. ⌜ take (2 * half + 1) r ≡ children half copy ⌝ }
 {
     let degree = 2 * half + 1;
@@ -36,7 +36,7 @@ fn by_number(half: usize, copy: usize) -> [usize; 9]
 
 /// The children of a copy, those in reach first.
 fn near_first(reach: &CopySet, half: usize, copy: usize) -> [usize; 9]
-    requires { ⌜ half ≤ 4 ⌝ ∗ ⌜ 0 < copy ⌝ ∗ ⌜ (2 * half + 1) * copy + 1 < 64 ⌝ }
+    requires { ⌜ half ≤ 4 ⌝ ∗ ⌜ 0 < copy ⌝ ∗ ⌜ (2 * half + 1) * copy + 1 < 65 ⌝ }
     ensures { λ r. ⌜ take (2 * half + 1) r ≡ near-first (members (now (reach .entry))) (children half copy) ⌝ }
 {
     let degree = 2 * half + 1;
