@@ -35,15 +35,21 @@ or-assoc : (a b c : Bool) → ((a || b) || c) ≡ (a || (b || c))
 or-assoc true b c = refl
 or-assoc false b c = refl
 
-among-append : (l m : List ℕ) (k : ℕ) → among (l ++ m) k ≡ (among l k || among m k)
+pub or-turned : (a b : Bool) → (a || b) ≡ (b || (a || false))
+or-turned true true = refl
+or-turned true false = refl
+or-turned false true = refl
+or-turned false false = refl
+
+pub among-append : (l m : List ℕ) (k : ℕ) → among (l ++ m) k ≡ (among l k || among m k)
 among-append [] m k = refl
 among-append (x ∷ l) m k = ap (λ b. eqb x k || b) (among-append l m k) ∙ sym (or-assoc (eqb x k) (among l k) (among m k))
 
-with-none : (x : Option (List ℕ)) → with-copies [] x ≡ x
+pub with-none : (x : Option (List ℕ)) → with-copies [] x ≡ x
 with-none None = refl
 with-none (Some l) = refl
 
-with-both : (l m : List ℕ) (x : Option (List ℕ)) → with-copies l (with-copies m x) ≡ with-copies (l ++ m) x
+pub with-both : (l m : List ℕ) (x : Option (List ℕ)) → with-copies l (with-copies m x) ≡ with-copies (l ++ m) x
 with-both l m None = refl
 with-both l m (Some n) = ap Some (sym (append-assoc l m n))
 
@@ -83,12 +89,6 @@ module _ (f : ℕ → Option (List ℕ)) (k : ℕ) (row : List ℕ) where
             g .left ∙ rw e (ap (with-copies (g .copies)) (gather-take w′ c rest (h .copies) (h .is)))
             ∙ with-both (g .copies) (h .copies) (gather f w′ rest);
       }
-
-  or-turned : (a b : Bool) → (a || b) ≡ (b || (a || false))
-  or-turned true true = refl
-  or-turned true false = refl
-  or-turned false true = refl
-  or-turned false false = refl
 
   -- a copy that is its own choice
   pub gathered-one : (s s′ : CopySet) (w w′ : ℕ) (c : ℕ) (rest : List ℕ) → f c ≡ Some (c ∷ []) → w ≡ suc w′ → ((x : ℕ) → members s′ x ≡ (eqb c x || members s x)) → Gathered f k row s w (c ∷ rest) → Gathered f k row s′ w′ rest

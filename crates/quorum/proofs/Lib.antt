@@ -5,3 +5,4 @@ mod Marked
 mod Marking
 mod RowProofs
 mod Shaping
+mod VoteCounting

@@ -6,3 +6,4 @@ mod marks;
 pub mod rule;
 pub mod tree;
 pub mod tree_rule;
+pub mod votes_rule;
