@@ -3,3 +3,4 @@ pub mod Faults
 pub mod Rows
 pub mod Sets
 pub mod Shapes
+pub mod Voting
