@@ -1,3 +1,4 @@
+mod Electing
 mod Fitting
 mod Gathering
 mod Given

@@ -93,7 +93,11 @@ fn choose_to_level(quorum: Quorum, reach: &CopySet, half: usize, height: usize) 
 fn check_odd(level: u32, size: usize) -> Result<(), RuleFault>
     ensures { λ r. ⌜ Cases r (λ _. size % 2 ≡ 1) (λ f. (f ≡ EvenLevel level) × (size % 2 ≡ 0)) ⌝ }
 {
-    if size % 2 == 1 { Ok(()) } else { Err(RuleFault::EvenLevel(level)) }
+    if size % 2 == 1 {
+        Ok(())
+    } else {
+        Err(RuleFault::EvenLevel(level))
+    }
 }
 
 /// The rule of a tree's levels. A write quorum is more than half of the copies of every level, a read quorum more than

@@ -70,7 +70,7 @@ pub struct VotesRule {
     ghost some: { 1 ≤ count },
     ghost few: { count ≤ 64 },
     ghost reachable: { threshold ≤ total (take count votes) },
-    ghost over_half: { total (take count votes) < 2 * threshold },
+    ghost majority: { total (take count votes) < 2 * threshold },
 }
 
 impl VotesRule {
@@ -89,9 +89,49 @@ impl VotesRule {
         let small = small_votes(votes)?;
         let sum = total(&small[0..count]);
         if threshold <= sum && 2 * threshold > sum {
-            Ok(VotesRule { votes: small, count, threshold })
+            Ok(VotesRule {
+                votes: small,
+                count,
+                threshold,
+            })
         } else {
             Err(RuleFault::VotesNotAllowed)
         }
+    }
+
+    /// The threshold for reading, or for writing.
+    fn threshold_for(&self, quorum: Quorum) -> u32
+        ensures { λ r. ⌜ r ≡ threshold-for quorum (take (now (self .entry) .count) (now (self .entry) .votes)) (now (self .entry) .threshold) ⌝ }
+    {
+        match quorum {
+            Quorum::Read => total(&self.votes[0..self.count]) + 1 - self.threshold,
+            Quorum::Write => self.threshold,
+        }
+    }
+
+    fn choose(&self, quorum: Quorum, reach: &[u8], choice: &mut [u8]) -> Result<Chosen, RuleFault>
+        ensures { λ r. ⌜ Chooses (votes-rule (take (now (self .entry) .count) (now (self .entry) .votes)) (now (self .entry) .threshold)) quorum (now (reach .entry)) (now (choice .entry)) (now (choice .exit)) r ⌝ }
+    {
+        check_lengths(self.count as u32, reach, choice)?;
+        let threshold = self.threshold_for(quorum);
+        let votes = &self.votes[0..self.count];
+        let set = choose_by_votes(votes, threshold, &marked_set(reach));
+        give(quorum, set, choice)
+    }
+}
+
+pub impl Rule for VotesRule as VotesRuleRule {
+    ghost meaning = { λ r. votes-rule (take (r .count) (r .votes)) (r .threshold) };
+
+    fn copies(&self) -> u32 {
+        self.count as u32
+    }
+
+    fn choose_read(&self, reach: &[u8], choice: &mut [u8]) -> Result<Chosen, RuleFault> {
+        self.choose(Quorum::Read, reach, choice)
+    }
+
+    fn choose_write(&self, reach: &[u8], choice: &mut [u8]) -> Result<Chosen, RuleFault> {
+        self.choose(Quorum::Write, reach, choice)
     }
 }

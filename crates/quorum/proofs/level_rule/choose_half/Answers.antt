@@ -33,15 +33,16 @@ loop-i-again c =
     let k = more-than-half n in
     let rest = counting (a + (i + 1)) (n - (i + 1)) in
     let g : Gathered (alone s) k row (c .loop-i .chosen) (c .loop-i .wanted) ((a + i) ∷ rest) =
-      subst (Gathered (alone s) k row (c .loop-i .chosen) (c .loop-i .wanted)) (counting-next a i n (c .loop-i-test .taken)) (c .loop-i .inv) in
+    subst (Gathered (alone s) k row (c .loop-i .chosen) (c .loop-i .wanted)) (counting-next a i n (c .loop-i-test .taken)) (c .loop-i .inv) in
     elim (c .if-wanted-gt0 .came) [
-      then-wanted-gt0·then-has w ↦
-        gathered-one (alone s) k row (c .loop-i .chosen) (c .if-wanted-gt0 .chosen) (c .loop-i .wanted) (c .if-wanted-gt0 .wanted) (a + i) rest
+      | then-wanted-gt0·then-has w ↦
+          gathered-one (alone s) k row (c .loop-i .chosen) (c .if-wanted-gt0 .chosen) (c .loop-i .wanted) (c .if-wanted-gt0 .wanted) (a + i) rest
           (rw (← (w .if-has .ensures tt), alone) refl) (omega (arith, w .wanted-is, w .if-wanted-gt0 .taken)) (rw (w .chosen-is) (w .insert .ensures)) g
-    | then-wanted-gt0·else-has w ↦
-        rw (w .chosen-is, w .wanted-is) (gathered-skip (alone s) k row (c .loop-i .chosen) (c .loop-i .wanted) (a + i) rest (rw (← (w .if-has .ensures tt), alone) tt) g)
-    | else-wanted-gt0 w ↦
-        rw (w .chosen-is, w .wanted-is) (gathered-done (alone s) k row (c .loop-i .chosen) (c .loop-i .wanted) (a + i) rest (omega (arith, w .if-wanted-gt0 .left)) g) ]
+      | then-wanted-gt0·else-has w ↦
+          rw (w .chosen-is, w .wanted-is) (gathered-skip (alone s) k row (c .loop-i .chosen) (c .loop-i .wanted) (a + i) rest (rw (← (w .if-has .ensures tt), alone) tt) g)
+      | else-wanted-gt0 w ↦
+          rw (w .chosen-is, w .wanted-is) (gathered-done (alone s) k row (c .loop-i .chosen) (c .loop-i .wanted) (a + i) rest (omega (arith, w .if-wanted-gt0 .left)) g)
+    ]
 
 -- the row has as many copies as it should
 count : (a n : ℕ) → more-than-half n ≡ more-than-half (length (counting a n))

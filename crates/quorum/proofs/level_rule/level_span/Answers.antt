@@ -35,6 +35,7 @@ pub mul-size : need.mul-size
 mul-size c = omega (arith, fits c)
 
 pub loop-level-again : need.loop-level-again
-loop-level-again c =
-    (next-first (c .args .half) (c .loop-level .-level) (c .args .level) (c .loop-level .first) (c .loop-level .size) (c .loop-level .inv .0) (c .loop-level .inv .1) (c .loop-level-test .taken) (c .pre .1),
-     next-size (c .args .half) (c .loop-level .-level) (c .args .level) (c .loop-level .first) (c .loop-level .size) (c .loop-level .inv .0) (c .loop-level .inv .1) (c .loop-level-test .taken) (c .pre .1))
+loop-level-again c = (
+  next-first (c .args .half) (c .loop-level .-level) (c .args .level) (c .loop-level .first) (c .loop-level .size) (c .loop-level .inv .0) (c .loop-level .inv .1) (c .loop-level-test .taken) (c .pre .1),
+  next-size (c .args .half) (c .loop-level .-level) (c .args .level) (c .loop-level .first) (c .loop-level .size) (c .loop-level .inv .0) (c .loop-level .inv .1) (c .loop-level-test .taken) (c .pre .1),
+)

@@ -17,9 +17,10 @@ more small votes i x long h few e same =
     take-more-set small i x (omega arith) ∙ ap (λ l. l ++ x ∷ []) same ∙ ap (λ v. take i votes ++ v ∷ []) e ∙ sym (take-more votes i 0 h)
 
 pub loop-i-again : need.loop-i-again
-loop-i-again c =
-    (length-set (c .loop-i .small) (c .loop-i .i) _ ∙ c .loop-i .inv .0,
-     more (c .loop-i .small) (c .args .votes .now) (c .loop-i .i) _ (c .loop-i .inv .0) (c .loop-i-test .taken) (c .pre) (omega (arith, c .if-vote-gt255 .left)) (c .loop-i .inv .1))
+loop-i-again c = (
+  length-set (c .loop-i .small) (c .loop-i .i) _ ∙ c .loop-i .inv .0,
+  more (c .loop-i .small) (c .args .votes .now) (c .loop-i .i) _ (c .loop-i .inv .0) (c .loop-i-test .taken) (c .pre) (omega (arith, c .if-vote-gt255 .left)) (c .loop-i .inv .1),
+)
 
 pub returns : need.returns
 returns c =
