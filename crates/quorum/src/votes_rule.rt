@@ -61,7 +61,7 @@ fn small_votes(votes: &[u32]) -> Result<[u8; 64], RuleFault>
 }
 
 /// The rule of votes. Each copy has 0 to 255 votes, and a set holds a quorum if its votes reach the threshold.
-#[derive(Clone, Copy)]
+#[derive(Clone, Copy, PartialEq, Eq, Debug)]
 pub struct VotesRule {
     votes: [u8; 64],
     count: usize,
