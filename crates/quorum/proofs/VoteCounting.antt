@@ -6,59 +6,50 @@ use mathlib.Core.Path.{_≡_, refl, sym, ap, _∙_}
 use native.Mathlib.Omega.{arith}
 use lib.Dec.{eqb, eqb→eq}
 use Rattle.std.proofs.shelf.Lists.{append-nil}
+use Rattle.std.specs.declared.option.Option.{Option}
 use Rattle.std.specs.declared.option.Option.the-variants.{None, Some}
 use Rattle.families.specs.Copies.{Copies, among}
 use Rattle.families.specs.Trees.{with-copies}
 use Rattle.families.specs.Votes.{votes-choice}
 use Rattle.quorum.specs.Sets.{Is, Same, members}
 use Rattle.quorum.specs.declared.copy_set.CopySet.{CopySet}
-use Rattle.quorum.proofs.Gathering.{among-append, or-turned, with-both, with-none}
+use Rattle.quorum.proofs.Gathering.{SoFar, added-one, complete, lacking, nothing-yet, passed-over}
 
 -- The set has the copies taken so far, and what is wanted still comes from the rest, which begins with copy c.
-pub record Counted (t : ℕ) (votes : List ℕ) (s : Copies) (set : CopySet) (wanted c : ℕ) (rest : List ℕ) : Type 0 where
-  pub copies : List ℕ
-  pub same : Same (members set) (among copies)
-  pub left : votes-choice t 1 votes s ≡ with-copies copies (votes-choice wanted c rest s)
+abbrev pub Counted : ℕ → List ℕ → Copies → CopySet → ℕ → ℕ → List ℕ → Type 0
+Counted t votes s set wanted c rest = SoFar (votes-choice t 1 votes s) set (votes-choice wanted c rest s)
 
 module _ (t : ℕ) (votes : List ℕ) (s : Copies) where
+  abbrev whole : Option (List ℕ)
+  whole = votes-choice t 1 votes s
+
   pub counted-none : (set : CopySet) → ((k : ℕ) → members set k ≡ false) → Counted t votes s set t 1 votes
-  counted-none set e = record { copies = []; same = e; left = sym (with-none (votes-choice t 1 votes s)) }
+  counted-none set e = nothing-yet whole set e
 
   -- nothing more is wanted, or this copy is not taken
   pub counted-done : (set : CopySet) (w c v : ℕ) (rest : List ℕ) → w ≡ 0 → Counted t votes s set w c (v ∷ rest) → Counted t votes s set w (c + 1) rest
-  counted-done set w c v rest e g = record { copies = g .copies; same = g .same; left = g .left ∙ rw e refl }
+  counted-done set w c v rest e g = passed-over whole set _ _ (rw e refl) g
 
   choice-skip : (w c v : ℕ) (rest : List ℕ) → (s c && not (eqb v 0)) ≡ false → votes-choice w c (v ∷ rest) s ≡ votes-choice w (c + 1) rest s
   choice-skip zero c v rest e = refl
   choice-skip (suc w) c v rest e = rw (e, votes-choice) refl
 
-  choice-take : (w c v : ℕ) (rest : List ℕ) → (s c && not (eqb v 0)) ≡ true → votes-choice (suc w) c (v ∷ rest) s ≡ with-copies (c ∷ []) (votes-choice (suc w - v) (c + 1) rest s)
-  choice-take w c v rest e = rw (e, votes-choice) refl
+  choice-take : (w w′ c v : ℕ) (rest : List ℕ) → 0 < w → w′ ≡ w - v → (s c && not (eqb v 0)) ≡ true → votes-choice w c (v ∷ rest) s ≡ with-copies (c ∷ []) (votes-choice w′ (c + 1) rest s)
+  choice-take zero w′ c v rest p n e = absurd (omega arith)
+  choice-take (suc w) w′ c v rest p n e = rw (e, votes-choice) (ap (λ k. with-copies (c ∷ []) (votes-choice k (c + 1) rest s)) (sym n))
 
   pub counted-skip : (set : CopySet) (w c v : ℕ) (rest : List ℕ) → (s c && not (eqb v 0)) ≡ false → Counted t votes s set w c (v ∷ rest) → Counted t votes s set w (c + 1) rest
-  counted-skip set w c v rest e g =
-      record { copies = g .copies; same = g .same; left = g .left ∙ ap (with-copies (g .copies)) (choice-skip w c v rest e) }
+  counted-skip set w c v rest e g = passed-over whole set _ _ (choice-skip w c v rest e) g
 
   pub counted-take : (set set′ : CopySet) (w w′ c v : ℕ) (rest : List ℕ) → 0 < w → w′ ≡ w - v → (s c && not (eqb v 0)) ≡ true → ((x : ℕ) → members set′ x ≡ (eqb c x || members set x)) → Counted t votes s set w c (v ∷ rest) → Counted t votes s set′ w′ (c + 1) rest
-  counted-take set set′ zero w′ c v rest p n e u g = absurd (omega arith)
-  counted-take set set′ (suc w) w′ c v rest p n e u g =
-      record {
-        copies = g .copies ++ (c ∷ []);
-        same = λ x. u x ∙ ap (λ b. eqb c x || b) (g .same x) ∙ or-turned (eqb c x) (among (g .copies) x) ∙ sym (among-append (g .copies) (c ∷ []) x);
-        left =
-            g .left ∙ ap (with-copies (g .copies)) (choice-take w c v rest e)
-            ∙ with-both (g .copies) (c ∷ []) (votes-choice (suc w - v) (c + 1) rest s)
-            ∙ ap (λ k. with-copies (g .copies ++ (c ∷ [])) (votes-choice k (c + 1) rest s)) (sym n);
-      }
+  counted-take set set′ w w′ c v rest p n e u g = added-one whole set set′ c _ _ (choice-take w w′ c v rest p n e) u g
 
-  pub counted-all : (set : CopySet) (w c : ℕ) → w ≡ 0 → Counted t votes s set w c [] → Is (Some set) (votes-choice t 1 votes s)
-  counted-all set w c e g =
-      let l : votes-choice t 1 votes s ≡ Some (g .copies) = g .left ∙ rw e (ap Some (append-nil (g .copies))) in
-      rw l (g .same)
+  pub counted-all : (set : CopySet) (w c : ℕ) → w ≡ 0 → Counted t votes s set w c [] → Is (Some set) whole
+  counted-all set w c e g = complete whole set (votes-choice w c [] s) (rw e refl) g
 
-  pub counted-too-few : (set : CopySet) (w c : ℕ) → 0 < w → Counted t votes s set w c [] → Is None (votes-choice t 1 votes s)
+  pub counted-too-few : (set : CopySet) (w c : ℕ) → 0 < w → Counted t votes s set w c [] → Is None whole
   counted-too-few set zero c p g = absurd (omega arith)
-  counted-too-few set (suc w) c p g = rw (g .left) tt
+  counted-too-few set (suc w) c p g = lacking whole set (votes-choice (suc w) c [] s) refl g
 
 -- which copies are taken
 pub is-taken : (b : Bool) (v : ℕ) → b ≡ true → (v ≡ 0 → ⊥) → (b && not (eqb v 0)) ≡ true

@@ -56,10 +56,10 @@ ended s a n i chosen wanted h g =
 
 pub returns-then-wanted-eq0 : need.returns-then-wanted-eq0
 returns-then-wanted-eq0 c =
-    gathered-all (alone (members (c .args .reach .now))) _ (counting (c .args .first) (c .args .size)) (c .loop-i .chosen) (c .loop-i .wanted) (c .if-wanted-eq0 .taken)
+    gathered-all (alone (members (c .args .reach .now))) (more-than-half (length (counting (c .args .first) (c .args .size)))) (counting (c .args .first) (c .args .size)) (c .loop-i .chosen) (c .loop-i .wanted) (c .if-wanted-eq0 .taken)
     (ended (members (c .args .reach .now)) (c .args .first) (c .args .size) (c .loop-i .i) (c .loop-i .chosen) (c .loop-i .wanted) (c .loop-i-test .left) (c .loop-i .inv))
 
 pub returns-else-wanted-eq0 : need.returns-else-wanted-eq0
 returns-else-wanted-eq0 c =
-    gathered-too-few (alone (members (c .args .reach .now))) _ (counting (c .args .first) (c .args .size)) (c .loop-i .chosen) (c .loop-i .wanted) (omega (arith, c .if-wanted-eq0 .left))
+    gathered-too-few (alone (members (c .args .reach .now))) (more-than-half (length (counting (c .args .first) (c .args .size)))) (counting (c .args .first) (c .args .size)) (c .loop-i .chosen) (c .loop-i .wanted) (omega (arith, c .if-wanted-eq0 .left))
     (ended (members (c .args .reach .now)) (c .args .first) (c .args .size) (c .loop-i .i) (c .loop-i .chosen) (c .loop-i .wanted) (c .loop-i-test .left) (c .loop-i .inv))

@@ -76,14 +76,14 @@ choose-in-row-choose-for-copy-requires t c κs =
 
 pub choose-in-row-returns-then-wanted-eq0 : need.choose-in-row-returns-then-wanted-eq0
 choose-in-row-returns-then-wanted-eq0 t c =
-    gathered-all _ _ _ _ _ (c .if-wanted-eq0 .taken) (rw (drop-all (c .loop-child .child-index) (c .args .row .now) (c .loop-child-test .left)) at (c .loop-child .inv))
+    gathered-all (choice (c .args .quorum) (c .args .half) (c .args .height) (members (c .args .reach .now))) (suc (c .args .half)) (c .args .row .now) (c .loop-child .chosen) (c .loop-child .wanted) (c .if-wanted-eq0 .taken) (rw (drop-all (c .loop-child .child-index) (c .args .row .now) (c .loop-child-test .left)) at (c .loop-child .inv))
 
 pub choose-in-row-returns-else-wanted-eq0 : need.choose-in-row-returns-else-wanted-eq0
 choose-in-row-returns-else-wanted-eq0 t c =
-    gathered-too-few _ _ _ _ _ (omega arith) (rw (drop-all (c .loop-child .child-index) (c .args .row .now) (c .loop-child-test .left)) at (c .loop-child .inv))
+    gathered-too-few (choice (c .args .quorum) (c .args .half) (c .args .height) (members (c .args .reach .now))) (suc (c .args .half)) (c .args .row .now) (c .loop-child .chosen) (c .loop-child .wanted) (omega arith) (rw (drop-all (c .loop-child .child-index) (c .args .row .now) (c .loop-child-test .left)) at (c .loop-child .inv))
 
 pub choose-in-row-loop-child-holds : need.choose-in-row-loop-child-holds
-choose-in-row-loop-child-holds t c = rw add-one (gathered-none _ _ _ _ (c .empty-chosen .ensures))
+choose-in-row-loop-child-holds t c = rw add-one (gathered-none (choice (c .args .quorum) (c .args .half) (c .args .height) (members (c .args .reach .now))) (suc (c .args .half)) (c .args .row .now) (c .empty-chosen .result) (c .empty-chosen .ensures))
 
 pub choose-in-row-loop-child-again : need.choose-in-row-loop-child-again
 choose-in-row-loop-child-again t c =
@@ -95,9 +95,9 @@ choose-in-row-loop-child-again t c =
     in
     elim (c .if-wanted-gt0 .came) [
       | choose-in-row-then-wanted-gt0·in-Some w ↦
-          gathered-take f _ row (c .loop-child .chosen) (w .in-Some .below) (c .if-wanted-gt0 .chosen) (c .loop-child .wanted) (c .if-wanted-gt0 .wanted) (getD row i 0) (drop (i + 1) row) (w .in-Some .ensures tt) (omega (arith, w .wanted-is, w .if-wanted-gt0 .taken)) (rw (w .chosen-is) (w .add-all .ensures)) g
+          gathered-take f (suc (c .args .half)) row (c .loop-child .chosen) (w .in-Some .below) (c .if-wanted-gt0 .chosen) (c .loop-child .wanted) (c .if-wanted-gt0 .wanted) (getD row i 0) (drop (i + 1) row) (w .in-Some .ensures tt) (omega (arith, w .wanted-is, w .if-wanted-gt0 .taken)) (rw (w .chosen-is) (w .add-all .ensures)) g
       | choose-in-row-then-wanted-gt0·in-rest w ↦
-          rw (w .chosen-is, w .wanted-is) (gathered-skip f _ row _ _ (getD row i 0) (drop (i + 1) row) (w .in-rest .ensures tt) g)
+          rw (w .chosen-is, w .wanted-is) (gathered-skip f (suc (c .args .half)) row (c .loop-child .chosen) (c .loop-child .wanted) (getD row i 0) (drop (i + 1) row) (w .in-rest .ensures tt) g)
       | choose-in-row-else-wanted-gt0 w ↦
-          rw (w .chosen-is, w .wanted-is) (gathered-done f _ row _ _ (getD row i 0) (drop (i + 1) row) (omega (arith, w .if-wanted-gt0 .left)) g)
+          rw (w .chosen-is, w .wanted-is) (gathered-done f (suc (c .args .half)) row (c .loop-child .chosen) (c .loop-child .wanted) (getD row i 0) (drop (i + 1) row) (omega (arith, w .if-wanted-gt0 .left)) g)
     ]
