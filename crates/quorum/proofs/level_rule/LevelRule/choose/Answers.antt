@@ -1,14 +1,12 @@
 use Prim.Native.Nat.{_/_, _≤_}
 use lib.ListN.{length}
 use mathlib.Core.Path.{_≡_, refl, sym, ap, subst, _∙_}
-use native.Mathlib.Omega.{arith}
-use Rattle.families.proofs.LevelLaws.{levels-lawful}
 use Rattle.families.specs.Copies.{marked}
 use Rattle.families.specs.Levels.{level-choice, levels-rule}
 use Rattle.families.specs.Trees.{copies-of}
 use Rattle.quorum.specs.Sets.{Is, members}
 use Rattle.quorum.proofs.Given.{from-marks, given-chooses}
-use Rattle.quorum.proofs.Shaping.{few-copies}
+use Rattle.quorum.proofs.RuleLaws.{levels-keep}
 use Rattle.quorum.proofs.level_rule.LevelRule.choose.Needs as need
 
 pub returns : need.returns
@@ -26,5 +24,5 @@ returns c =
     let is : Is (c .choose-to-level-set .result) (level-choice (c .args .quorum) d h (marked n reach)) =
     subst (λ k. Is (c .choose-to-level-set .result) (level-choice (c .args .quorum) d h (marked k reach))) here
     (from-marks (λ s. Is (c .choose-to-level-set .result) (level-choice (c .args .quorum) d h s)) (members (c .marked-set .result)) (marked (length reach) reach) (c .marked-set .ensures) chosen) in
-    given-chooses (levels-rule d h) (levels-lawful d h (omega (arith, few-copies (tree .degree) h (tree .allowed)))) (c .args .quorum) reach (c .args .choice .now) (c .give .last .choice)
+    given-chooses (levels-rule d h) (levels-keep tree) (c .args .quorum) reach (c .args .choice .now) (c .give .last .choice)
     (c .choose-to-level-set .result) (level-choice (c .args .quorum) d h (marked n reach)) refl is (here, fit .1 ∙ c .copies .ensures .0) (c .give .result) (c .give .ensures)

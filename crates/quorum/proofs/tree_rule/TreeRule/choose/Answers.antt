@@ -1,13 +1,11 @@
 use Prim.Native.Nat.{_/_, _≤_}
 use lib.ListN.{length}
 use mathlib.Core.Path.{_≡_, refl, sym, ap, subst, _∙_}
-use native.Mathlib.Omega.{arith}
-use Rattle.families.proofs.TreeLaws.{tree-lawful}
 use Rattle.families.specs.Copies.{marked}
 use Rattle.families.specs.Trees.{choice, copies-of, tree-rule}
 use Rattle.quorum.specs.Sets.{Is, members}
 use Rattle.quorum.proofs.Given.{from-marks, given-chooses}
-use Rattle.quorum.proofs.Shaping.{few-copies}
+use Rattle.quorum.proofs.RuleLaws.{tree-keeps}
 use Rattle.quorum.proofs.tree_rule.TreeRule.choose.Needs as need
 
 pub returns : need.returns
@@ -25,5 +23,5 @@ returns c =
     let is : Is (c .choose-for-copy-set .result) (choice (c .args .quorum) d h (marked n reach) 1) =
     subst (λ k. Is (c .choose-for-copy-set .result) (choice (c .args .quorum) d h (marked k reach) 1)) here
     (from-marks (λ s. Is (c .choose-for-copy-set .result) (choice (c .args .quorum) d h s 1)) (members (c .marked-set .result)) (marked (length reach) reach) (c .marked-set .ensures) chosen) in
-    given-chooses (tree-rule d h) (tree-lawful d h (omega (arith, few-copies (tree .degree) h (tree .allowed)))) (c .args .quorum) reach (c .args .choice .now) (c .give .last .choice)
+    given-chooses (tree-rule d h) (tree-keeps tree) (c .args .quorum) reach (c .args .choice .now) (c .give .last .choice)
     (c .choose-for-copy-set .result) (choice (c .args .quorum) d h (marked n reach) 1) refl is (here, fit .1 ∙ c .copies .ensures .0) (c .give .result) (c .give .ensures)

@@ -1,9 +1,5 @@
-use Prim.Native.Nat.{_/_}
-use native.Mathlib.Omega.{arith}
-use Rattle.families.proofs.TreeLaws.{tree-lawful}
-use Rattle.quorum.proofs.Shaping.{few-copies}
+use Rattle.quorum.proofs.RuleLaws.{tree-keeps}
 use Rattle.quorum.proofs.tree_rule.TreeRuleRule.the-impl.Needs as need
 
 pub lawful-law : need.lawful-law
-lawful-law r =
-    tree-lawful (r .tree .degree / 2) (r .tree .height) (omega (arith, few-copies (r .tree .degree) (r .tree .height) (r .tree .allowed)))
+lawful-law r = tree-keeps (r .tree)

@@ -2,12 +2,10 @@ use Prim.Native.Nat.{_-_}
 use lib.ListN.{length, take}
 use mathlib.Core.Path.{_≡_, refl, sym, ap, subst, _∙_}
 use native.Mathlib.Nat.{sub-zero}
-use native.Mathlib.Omega.{arith}
-use Rattle.families.proofs.VoteLaws.{votes-lawful}
 use Rattle.families.specs.Copies.{marked}
 use Rattle.families.specs.Votes.{threshold, votes-choice, votes-rule}
 use Rattle.quorum.specs.Sets.{Is, members}
-use Rattle.quorum.proofs.Electing.{allowed}
+use Rattle.quorum.proofs.RuleLaws.{votes-keep}
 use Rattle.quorum.proofs.Given.{from-marks, given-chooses}
 use Rattle.quorum.proofs.votes_rule.VotesRule.choose.Needs as need
 
@@ -28,5 +26,5 @@ returns c =
     let is : Is set (votes-choice t 1 votes (marked n reach)) =
     subst (λ k. Is set (votes-choice t 1 votes (marked k reach))) here
     (from-marks (λ s. Is set (votes-choice t 1 votes s)) (members (c .marked-set .result)) (marked (length reach) reach) (c .marked-set .ensures) chosen) in
-    given-chooses (votes-rule votes w) (votes-lawful votes w (allowed rule)) (c .args .quorum) reach (c .args .choice .now) (c .give .last .choice)
+    given-chooses (votes-rule votes w) (votes-keep rule) (c .args .quorum) reach (c .args .choice .now) (c .give .last .choice)
     set (votes-choice t 1 votes (marked n reach)) refl is (here, fit .1 ∙ sym (rule .whole)) (c .give .result) (c .give .ensures)
