@@ -33,8 +33,8 @@ pub impl fmt::Display for TreeFault as TreeFaultDisplay {
     ghost shown = { λ f. Some (refusal-text (told (tree-line f))) };
 
     fn fmt<W: fmt::Write>(&self, f: &mut fmt::Formatter<W>) -> fmt::Result {
-        let refusal = self.refusal();
-        write!(f, "{refusal}")
+        let told = self.refusal();
+        write!(f, "{told}")
     }
 }
 
