@@ -82,9 +82,6 @@ level-in d k n l = run-in n (level-first d k) (level-size d k) (level-first-from
 
 -- halves
 
-half-of-odd : (j : ℕ) → (2 * j + 1) / 2 ≡ j
-half-of-odd j = omega arith
-
 half-split : (d k : ℕ) (s : Copies) → half-held s (level d k) ≡ not (half-held (λ c. not (s c)) (level d k))
 half-split d k s =
     let o = level-odd d k in

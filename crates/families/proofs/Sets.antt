@@ -99,6 +99,3 @@ map-same f g a (suc n) h =
 pub marks-clean : (n : ℕ) (s : Copies) → marks n s ≡ marks n (marked n (marks n s))
 marks-clean n s =
     map-same _ _ 1 n (λ c l k. ap (λ b. cond b 1 0) (sym (marked-marks n s c (copy-from n c l (omega arith)))))
-
-pub marked-is-copy : (n : ℕ) (ms : List ℕ) (c : ℕ) → T (marked n ms c) → T (is-copy n c)
-marked-is-copy n ms c h = and-left (is-copy n c) _ h

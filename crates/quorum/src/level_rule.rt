@@ -1,12 +1,11 @@
 //! The levels rule.
-ghost use Prim.Native.Nat.{_*_, _+_, _-_, _/_, _%_, _<_, _≤_, suc, ℕ};
+ghost use Prim.Native.Nat.{_*_, _+_, _-_, _/_, _%_, _<_, _≤_};
 ghost use Rattle.families.specs.Levels.{half-choice, level, level-choice, level-first, level-size, levels-rule};
 ghost use Rattle.families.specs.Trees.{last-copy};
 ghost use Rattle.quorum.specs.Choosing.{Chooses};
 ghost use Rattle.quorum.specs.Sets.{Is, Joins, Joined, members};
 ghost use Rattle.quorum.specs.declared.fault.RuleFault.the-variants.{EvenLevel};
 ghost use Rattle.std.specs.Iters.{counting};
-ghost use Rattle.std.specs.Options.{Cases as BySome};
 ghost use Rattle.std.specs.Results.{Cases};
 ghost use mathlib.Core.Path.{_≡_};
 use super::copy_set::CopySet;

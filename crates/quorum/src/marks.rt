@@ -1,5 +1,5 @@
 //! Marks: sets of copies in the caller's lists.
-ghost use Prim.Native.Nat.{ℕ, _<_};
+ghost use Prim.Native.Nat.{_<_};
 ghost use Rattle.families.specs.Copies.{marked, marks};
 ghost use Rattle.quorum.specs.Choosing.{Gives};
 ghost use Rattle.quorum.specs.Sets.{Same, members};

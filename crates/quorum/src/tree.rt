@@ -1,5 +1,5 @@
 //! Trees: the degrees and heights that are allowed.
-ghost use Prim.Native.Nat.{ℕ, _/_, _≤_};
+ghost use Prim.Native.Nat.{_/_, _≤_};
 ghost use Rattle.families.specs.Trees.{copies-of};
 ghost use Rattle.quorum.specs.Shapes.{allowed-tree};
 ghost use Rattle.quorum.specs.declared.fault.TreeFault.the-variants.{NotAllowed};

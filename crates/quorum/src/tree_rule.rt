@@ -1,12 +1,11 @@
 //! The tree rule.
-ghost use Prim.Native.Nat.{_*_, _+_, _-_, _/_, _<_, _≤_, suc, ℕ};
-ghost use Rattle.families.specs.Meaning.{Meaning};
+ghost use Prim.Native.Nat.{_*_, _+_, _-_, _/_, _<_, _≤_, suc};
 ghost use Rattle.families.specs.Trees.{children, choice, gather, near-first, tree-rule};
 ghost use Rattle.quorum.specs.Choosing.{Chooses};
 ghost use Rattle.quorum.specs.Rows.{Fits};
 ghost use Rattle.quorum.specs.Sets.{Is, members};
 ghost use Rattle.std.specs.shelf.Lists.{All};
-ghost use lib.ListN.{length, take};
+ghost use lib.ListN.{take};
 ghost use mathlib.Core.Path.{_≡_};
 use super::copy_set::CopySet;
 use super::fault::RuleFault;

@@ -1,5 +1,5 @@
 //! The votes rule.
-ghost use Prim.Native.Nat.{_*_, _<_, _≤_, ℕ};
+ghost use Prim.Native.Nat.{_*_, _<_, _≤_};
 ghost use Rattle.families.specs.Votes.{threshold as threshold-for, total, votes-choice, votes-rule};
 ghost use Rattle.quorum.specs.Choosing.{Chooses};
 ghost use Rattle.quorum.specs.Sets.{Is, members};
