@@ -1,7 +1,5 @@
 use Rattle.families.specs.Meaning.{Lawful}
-use Rattle.levelrule.specs.RuleLaws.{levels_keep}
-use Rattle.treerule.specs.RuleLaws.{tree_keeps}
-use Rattle.votesrule.proofs.RuleLaws.{votes_keep}
+use Rattle.quorum.specs.RuleLaws.{levels_keep, tree_keeps, votes_keep}
 use Rattle.anyrule.specs.Meanings.{any_meaning}
 use Rattle.anyrule.specs.declared.AnyRule.{AnyRule}
 use Rattle.anyrule.specs.declared.AnyRule.TheVariants as any

@@ -2,10 +2,10 @@
 use Rattle.std.specs.Prelude.{◌≡◌, false, take, Ok, Err, vec_items, Result}
 use Rattle.faults.specs.Line.{Line}
 use Rattle.quorum.specs.Faults.{rule_line}
-use Rattle.trees.specs.Faults.{tree_line}
-use Rattle.trees.specs.Shapes.{allowed_tree}
-use Rattle.votesrule.specs.Voting.{NoVotesRule}
-use Rattle.trees.specs.declared.TreeFault.TheVariants.{NotAllowed}
+use Rattle.quorum.specs.Faults.{tree_line}
+use Rattle.quorum.specs.Shapes.{allowed_tree}
+use Rattle.quorum.specs.Voting.{NoVotesRule}
+use Rattle.quorum.specs.declared.fault.TreeFault.TheVariants.{NotAllowed}
 use Rattle.anyrule.specs.declared.AnyRule.{AnyRule}
 use Rattle.anyrule.specs.declared.AnyRule.TheVariants as any
 use Rattle.anyrule.specs.declared.FormFault.{FormFault}

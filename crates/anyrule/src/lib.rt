@@ -8,13 +8,13 @@ ghost use Rattle.std.proofs.Common.{rules};
 ghost use Rattle.anyrule.specs.AnyRuleRuleLemmas.{keeps};
 
 use faults::{Fault, Refusal};
-use levelrule::LevelRule;
-use quorum::fault::RuleFault;
+use quorum::level_rule::LevelRule;
+use quorum::fault::{RuleFault, TreeFault};
 use quorum::rule::{Chosen, Rule};
 use std::fmt;
-use treerule::TreeRule;
-use trees::{Tree, TreeFault};
-use votesrule::VotesRule;
+use quorum::tree_rule::TreeRule;
+use quorum::tree::Tree;
+use quorum::votes_rule::VotesRule;
 
 /// One of the three rules.
 #[derive(Clone, Copy, PartialEq, Eq, Debug)]

@@ -2,21 +2,20 @@
 //!
 //! With no argument the script is standard input. Each argument is a file with a script of its own. Lines that cannot
 //! be read are told on standard error, all of them, and the program ends with status 1 before any call is made.
-use answers::{answers_to, summary_of};
 use anyhow::anyhow;
-use lines::line::Kind;
-use lines::reading::read_lines;
 use notation::written::Written;
+use script::answer::{answers_to, summary_of};
+use script::line::{Call, Kind};
 use script::order::kind_of;
-use script::reading::{Script, Unread, read_script};
+use script::reading::{Unread, read_lines, read_script};
 use std::{env, fs, io};
 use values::baseline::Baseline;
 use values::notice::Notice;
 use values::value::Value;
 
 /// Prints the answer to each call, and then how many there were.
-fn run_calls<V: Value>(rt: &HostRuntime, script: &Script<V>) -> anyhow::Result<()> {
-    let answers = answers_to(rt.alloc(), &script.rule, script.calls.as_slice())?;
+fn run_calls<V: Value>(rt: &HostRuntime, calls: &[Call<V>]) -> anyhow::Result<()> {
+    let answers = answers_to(rt.alloc(), calls)?;
     for answer in answers.as_slice() {
         println!(rt; "{answer}")?;
     }
@@ -25,22 +24,18 @@ fn run_calls<V: Value>(rt: &HostRuntime, script: &Script<V>) -> anyhow::Result<(
     Ok(())
 }
 
-/// Runs a script, or tells its bad lines or why there is no such rule.
+/// Runs a script, or tells its bad lines.
 fn run_script<V: Written + Drop>(
     rt: &HostRuntime,
-    script: Result<Script<V>, Unread>,
+    script: Result<Vec<Call<V>>, Unread>,
 ) -> anyhow::Result<()> {
     match script {
-        Ok(script) => run_calls(rt, &script),
+        Ok(calls) => run_calls(rt, calls.as_slice()),
         Err(Unread::Memory) => Err(anyhow!("out of memory")),
         Err(Unread::Bad(lines)) => {
             for line in lines.as_slice() {
                 eprintln!(rt; "{line}")?;
             }
-            Err(anyhow!("nothing was done"))
-        }
-        Err(Unread::Rule(fault)) => {
-            println!(rt; "rule: {fault}")?;
             Err(anyhow!("nothing was done"))
         }
     }

@@ -1,11 +1,11 @@
 //! Rules that choose.
-use levelrule::LevelRule;
-use quorum::fault::RuleFault;
+use quorum::fault::{RuleFault, TreeFault};
+use quorum::level_rule::LevelRule;
 use quorum::rule::Rule;
+use quorum::tree::Tree;
+use quorum::tree_rule::TreeRule;
+use quorum::votes_rule::VotesRule;
 use std::test::Fail;
-use treerule::TreeRule;
-use trees::{Tree, TreeFault};
-use votesrule::VotesRule;
 
 /// How many of the marks are 1.
 fn count(marks: &[u8]) -> u32 {

@@ -1,10 +1,13 @@
--- What of a choice a set has so far, and what a row has given so far.
-use Rattle.std.proofs.Common.{◌≡◌, ℕ, zero, suc, ◌<◌, Bool, true, false, ◌||◌, eqb, List, [], ◌∷◌, ◌++◌, Some, None, Option, sym, refl, ap, ◌∙◌, subst, append_assoc, arith}
+-- What a row has given so far, and a choice from the choices below.
+use Rattle.std.proofs.Common.{◌≡◌, ℕ, zero, suc, ◌+◌, ◌-◌, ◌<◌, ◌≤◌, Bool, true, false, not, ◌||◌, eqb, List, [], ◌∷◌, ◌++◌, length, get_or, drop, Some, None, Option, sym, refl, ap, ◌∙◌, subst, append_assoc, arith}
 use Rattle.std.proofs.lemmas.List.{append-nil}
-use Rattle.families.specs.Copies.{among}
-use Rattle.families.specs.Trees.{gather, with_copies}
+use Rattle.families.specs.Copies.{Copies, among}
+use Rattle.families.specs.Levels.{choice_joined}
+use Rattle.families.specs.Trees.{children, choice, gather, near_first, with_copies}
 use Rattle.quorum.specs.declared.copy_set.CopySet.{CopySet}
-use Rattle.quorum.specs.Sets.{Is, Same, members}
+use Rattle.quorum.specs.Sets.{Is, Joins, Same, members}
+use Rattle.families.specs.declared.Quorum.{Quorum}
+use Rattle.families.specs.declared.Quorum.TheVariants.{Read, Write}
 
 -- what an optional set says of the choice
 pub is_none : (x : Option (List ℕ)) → Is None x → x ≡ None
@@ -30,7 +33,7 @@ or_turned true false = refl
 or_turned false true = refl
 or_turned false false = refl
 
-pub among_append : (l m : List ℕ) (k : ℕ) → among (l ++ m) k ≡ (among l k || among m k)
+among_append : (l m : List ℕ) (k : ℕ) → among (l ++ m) k ≡ (among l k || among m k)
 among_append [] m k = refl
 among_append (x ∷ l) m k = ap (λ b. eqb x k || b) (among_append l m k) ∙ sym (or_assoc (eqb x k) (among l k) (among m k))
 
@@ -115,3 +118,50 @@ module _ (f : ℕ → Option (List ℕ)) (k : ℕ) (row : List ℕ) where
   pub gathered_too_few : (s : CopySet) (w : ℕ) → 0 < w → Gathered f k row s w [] → Is None (gather f k row)
   gathered_too_few s zero p g = absurd (omega arith)
   gathered_too_few s (suc w) p g = lacking (gather f k row) s (gather f (suc w) []) refl g
+
+-- A copy's choice.
+module _ (d h h' : ℕ) (s : Copies) (c : ℕ) (e : h ≡ suc h') where
+  pub read_here : (r : CopySet) → s c ≡ true → Same (members r) (among (c ∷ [])) → Is (Some r) (choice Read d h s c)
+  read_here r t m = rw (e, t, choice) m
+
+  pub read_away : (r : Option CopySet) → s c ≡ false → Is r (gather (choice Read d h' s) (suc d) (near_first s (children d c))) → Is r (choice Read d h s c)
+  read_away r t i = rw (e, t, choice) i
+
+  pub write_away : s c ≡ false → Is None (choice Write d h s c)
+  write_away t = rw (e, t, choice) tt
+
+  pub write_none : s c ≡ true → Is None (gather (choice Write d h' s) (suc d) (children d c)) → Is None (choice Write d h s c)
+  write_none t i = rw (e, t, is_none _ i, choice) tt
+
+  pub write_here : (r r' : CopySet) → s c ≡ true → Is (Some r) (gather (choice Write d h' s) (suc d) (children d c)) → ((x : ℕ) → members r' x ≡ (eqb c x || members r x)) → Is (Some r') (choice Write d h s c)
+  write_here r r' t i u =
+      let g = is_some r _ i in
+      rw (e, t, g.is, choice) (λ x. u x ∙ ap (λ b. eqb c x || b) (g.same x))
+
+-- The same, of a quorum that is known to be the one or the other.
+module _ (q : Quorum) (d h h' : ℕ) (s : Copies) (c : ℕ) (e : h ≡ suc h') where
+  pub reading_here : (r : CopySet) → q ≡ Read → s c ≡ true → Same (members r) (among (c ∷ [])) → Is (Some r) (choice q d h s c)
+  reading_here r k t m = rw k (read_here d h h' s c e r t m)
+
+  pub reading_away : (r : Option CopySet) (row : List ℕ) → q ≡ Read → s c ≡ false → row ≡ near_first s (children d c) → Is r (gather (choice q d h' s) (suc d) row) → Is r (choice q d h s c)
+  reading_away r row k t l i = rw k (read_away d h h' s c e r t (rw (k, l) at i))
+
+  pub writing_away : q ≡ Write → s c ≡ false → Is None (choice q d h s c)
+  writing_away k t = rw k (write_away d h h' s c e t)
+
+  pub writing_none : (row : List ℕ) → q ≡ Write → s c ≡ true → row ≡ children d c → Is None (gather (choice q d h' s) (suc d) row) → Is None (choice q d h s c)
+  writing_none row k t l i = rw k (write_none d h h' s c e t (rw (k, l) at i))
+
+  pub writing_here : (row : List ℕ) (r r' : CopySet) → q ≡ Write → s c ≡ true → row ≡ children d c → Is (Some r) (gather (choice q d h' s) (suc d) row) → ((x : ℕ) → members r' x ≡ (eqb c x || members r x)) → Is (Some r') (choice q d h s c)
+  writing_here row r r' k t l i u = rw k (write_here d h h' s c e r r' t (rw (k, l) at i) u)
+
+-- Two choices joined for writing.
+pub joined_write : (one other r : Option CopySet) (x y : Option (List ℕ)) → Joins one other r → Is one x → Is other y → Is r (choice_joined Write x y)
+joined_write None other r None y j i k = rw j tt
+joined_write None other r (Some l) y j i k = absurd i
+joined_write (Some s) other r None y j i k = absurd i
+joined_write (Some s) None r (Some l) None j i k = rw j tt
+joined_write (Some s) None r (Some l) (Some m) j i k = absurd k
+joined_write (Some s) (Some t) r (Some l) None j i k = absurd k
+joined_write (Some s) (Some t) None (Some l) (Some m) j i k = absurd j
+joined_write (Some s) (Some t) (Some r) (Some l) (Some m) j i k = λ c. j c ∙ rw (i c, k c) (sym (among_append l m c))

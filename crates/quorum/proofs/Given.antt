@@ -1,7 +1,6 @@
 -- From a set that was chosen to the rule's choice.
-use Rattle.std.proofs.Common.{◌≡◌, ℕ, ◌≤◌, min, List, length, Some, None, Ok, Err, Option, Result, sym, refl, ap, ◌∙◌, subst, MatchOption}
+use Rattle.std.proofs.Common.{◌≡◌, ℕ, false, List, length, Some, None, Ok, Err, Option, Result, sym, refl, ap, ◌∙◌, subst, MatchOption}
 use mathlib.Core.Path.{fun_ext}
-use native.Mathlib.Nat.{min-eq_left}
 use Rattle.families.specs.Copies.{Copies, among, marked, marks}
 use Rattle.families.specs.Meaning.{Chosen, Lawful, Meaning}
 use Rattle.families.specs.declared.Quorum.{Quorum}
@@ -28,6 +27,5 @@ given_chooses m law q reach before after (Some s) (Some l) e i fit (Ok c) g =
 given_chooses m law q reach before after (Some s) (Some l) e i fit (Err f) g = absurd g
 
 -- a choice that was made from the reach marks as a set
-pub from_marks : (P : Copies → Type 0) (s : Copies) (n : ℕ) (reach : List ℕ) → length reach ≡ n → n ≤ 64 → Same s (marked (min (length reach) 64) reach) → P s → P (marked n reach)
-from_marks P s n reach e few same h =
-    subst (λ k. P (marked k reach)) (ap (λ k. min k 64) e ∙ min-eq_left few) (subst P (fun_ext same) h)
+pub from_marks : (P : Copies → Type 0) (s t : Copies) → Same s t → P s → P t
+from_marks P s t e h = subst P (fun_ext e) h

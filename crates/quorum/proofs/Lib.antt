@@ -1,4 +1,7 @@
-pub mod Gathering
-pub mod Given
-pub mod Marked
+mod Fitting
+mod Gathering
+mod Given
+mod Marked
 mod Marking
+mod RowProofs
+mod VoteCounting

@@ -1,11 +1,43 @@
-//! What rules refuse.
+//! What trees and rules refuse.
 ghost use Rattle.faults.specs.Line.{refusal_text, told};
-ghost use Rattle.quorum.specs.Faults.{rule_line};
+ghost use Rattle.quorum.specs.Faults.{rule_line, tree_line};
 ghost use Rattle.std.specs.Prelude.{Some};
 ghost use Rattle.std.proofs.Common.{rules};
 
 use faults::{Fault, Layer, Refusal};
 use std::fmt;
+
+/// Why there is no tree.
+#[derive(Clone, Copy, PartialEq, Eq, Debug)]
+pub enum TreeFault {
+    /// The degree and the height are not those of an allowed tree.
+    NotAllowed,
+}
+
+impl Fault for TreeFault {
+    ghost line = { tree_line };
+
+    ghost place_listed = { Prim.search rules };
+
+    fn refusal(&self) -> Refusal {
+        match self {
+            TreeFault::NotAllowed => Refusal {
+                number: 15,
+                layer: Layer::Tree,
+                place: 0,
+            },
+        }
+    }
+}
+
+impl fmt::Display for TreeFault {
+    ghost output = { λ f. Some (refusal_text (told (tree_line f))) };
+
+    fn fmt<W: fmt::Write>(&self, f: &mut fmt::Formatter<W>) -> fmt::Result {
+        let told = self.refusal();
+        write!(f, "{told}")
+    }
+}
 
 /// Why a rule is not made, or makes no choice.
 #[derive(Clone, Copy, PartialEq, Eq, Debug)]

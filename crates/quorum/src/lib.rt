@@ -1,5 +1,9 @@
-//! Quorum rules: what every rule gives, and the sets of copies that rules choose with.
+//! Quorum rules: which copies a reading or a writing takes.
 pub mod copy_set;
 pub mod fault;
-pub mod marks;
+pub mod level_rule;
+mod marks;
 pub mod rule;
+pub mod tree;
+pub mod tree_rule;
+pub mod votes_rule;

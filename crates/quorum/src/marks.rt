@@ -1,5 +1,5 @@
 //! Marks: sets of copies in the caller's lists.
-ghost use Rattle.std.specs.Prelude.{◌≡◌, min, length, MatchResult};
+ghost use Rattle.std.specs.Prelude.{◌≡◌, ◌<◌, length, MatchResult};
 ghost use Rattle.families.specs.Copies.{marked, marks};
 ghost use Rattle.quorum.specs.Choosing.{Gives};
 ghost use Rattle.quorum.specs.Sets.{Same, members};
@@ -10,9 +10,10 @@ use super::fault::RuleFault;
 use super::rule::Chosen;
 use families::Quorum;
 
-/// The copies, among the first 64, whose marks are not 0.
-pub fn marked_set(reach: &[u8]) -> CopySet
-    ensures { Same (members result) (marked (min (length reach.now) 64) reach.now) }
+/// The copies whose marks are not 0.
+pub(crate) fn marked_set(reach: &[u8]) -> CopySet
+    requires { length reach.now < 65 }
+    ensures { Same (members result) (marked (length reach.now) reach.now) }
 {
     let mut set = CopySet::empty();
     for (i, mark) in reach.iter().enumerate() {
@@ -24,7 +25,8 @@ pub fn marked_set(reach: &[u8]) -> CopySet
 }
 
 /// Writes 1 for each copy of the set, and 0 for the rest.
-pub fn fill_marks(set: &CopySet, choice: &mut [u8])
+pub(crate) fn fill_marks(set: &CopySet, choice: &mut [u8])
+    requires { length choice.old < 65 }
     ensures { choice.new ≡ marks (length choice.old) (members set.now) }
 {
     for (i, mark) in choice.iter_mut().enumerate() {
@@ -33,7 +35,7 @@ pub fn fill_marks(set: &CopySet, choice: &mut [u8])
 }
 
 /// Refuses lists that have not one mark for each of the `n` copies.
-pub fn check_lengths(n: u32, reach: &[u8], choice: &[u8]) -> Result<(), RuleFault>
+pub(crate) fn check_lengths(n: u32, reach: &[u8], choice: &[u8]) -> Result<(), RuleFault>
     ensures { MatchResult result (λ _. (length reach.now ≡ n) × (length choice.now ≡ n)) (λ f. (f ≡ Length n) × ((length reach.now ≡ n) × (length choice.now ≡ n) → ⊥)) }
 {
     let len = n as usize;
@@ -45,7 +47,12 @@ pub fn check_lengths(n: u32, reach: &[u8], choice: &[u8]) -> Result<(), RuleFaul
 }
 
 /// Hands the set chosen to the caller, or refuses where there is none.
-pub fn give(quorum: Quorum, set: Option<CopySet>, choice: &mut [u8]) -> Result<Chosen, RuleFault>
+pub(crate) fn give(
+    quorum: Quorum,
+    set: Option<CopySet>,
+    choice: &mut [u8],
+) -> Result<Chosen, RuleFault>
+    requires { length choice.old < 65 }
     ensures { Gives quorum set choice.old choice.new result }
 {
     match set {

@@ -1,1 +1,3 @@
+mod Counting
 mod Ordering
+mod Turns

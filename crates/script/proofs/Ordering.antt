@@ -2,9 +2,11 @@
 use Rattle.std.proofs.Common.{◌≡◌, ℕ, zero, suc, ◌+◌, ◌<◌, ◌≤◌, Bool, true, false, ◌||◌, List, [], ◌∷◌, ◌++◌, length, get_or, take, drop, Some, None, Option, unwrap_or, sym, refl, ap, ◌∙◌, append_assoc, append-nil, add-one, arith, length-take, drop-cons}
 use Rattle.std.proofs.lemmas.List.{take_more}
 use Rattle.std.specs.Option.{option_to_list}
-use Rattle.script.specs.Order.{any, bad_lines, call_in, calls_of, fault_at, first_of, told_as}
-use Rattle.lines.specs.declared.line.Call.{Call}
-use Rattle.lines.specs.declared.line.Line.{Line}
+use Rattle.script.specs.Order.{any, bad_lines, call_in, calls_of, fault_at, kind_in, kind_of, told_as}
+use Rattle.script.specs.declared.line.Call.{Call}
+use Rattle.script.specs.declared.line.Kind.{Kind}
+use Rattle.script.specs.declared.line.Kind.TheVariants.{Baseline}
+use Rattle.script.specs.declared.line.Line.{Line}
 use Rattle.script.specs.declared.order.BadLine.{BadLine}
 use Rattle.script.specs.declared.order.Cause.{Cause}
 
@@ -33,20 +35,20 @@ module _ {A : Type 0} (test : A → Bool) (xs : List A) (i : ℕ) (all : any tes
     pub any_passed : false ≡ test x → any test xs ≡ any test (drop (i + 1) xs)
     any_passed e = any_step ∙ ap (λ b. b || any test (drop (i + 1) xs)) (sym e)
 
--- the first that a line gives
-module _ {A B : Type 0} (gives : A → Option B) (other : B) (xs : List A) (i : ℕ) (all : first_of gives other xs ≡ first_of gives other (drop i xs)) where
-  pub first_end : length xs ≤ i → other ≡ first_of gives other xs
-  first_end h = sym (all ∙ left_end (first_of gives other) xs i h)
+-- the kind that the lines set up
+module _ {V : Type 0} (xs : List (Option (Line V))) (i : ℕ) (all : kind_of xs ≡ kind_of (drop i xs)) where
+  pub kind_end : length xs ≤ i → Baseline ≡ kind_of xs
+  kind_end h = sym (all ∙ left_end kind_of xs i h)
 
-  module _ (x : A) (here : i < length xs) (is : x ≡ get_or xs i x) where
-    first_step : first_of gives other xs ≡ unwrap_or (gives x) (first_of gives other (drop (i + 1) xs))
-    first_step = all ∙ left_step (first_of gives other) (λ y k. unwrap_or (gives y) k) (λ y ys. refl) xs i x here is
+  module _ (x : Option (Line V)) (here : i < length xs) (is : x ≡ get_or xs i x) where
+    kind_step : kind_of xs ≡ unwrap_or (kind_in x) (kind_of (drop (i + 1) xs))
+    kind_step = all ∙ left_step kind_of (λ y k. unwrap_or (kind_in y) k) (λ y ys. refl) xs i x here is
 
-    pub first_found : (b : B) → Some b ≡ gives x → b ≡ first_of gives other xs
-    first_found b e = sym (first_step ∙ ap (λ o. unwrap_or o (first_of gives other (drop (i + 1) xs))) (sym e))
+    pub kind_found : (k : Kind) → Some k ≡ kind_in x → k ≡ kind_of xs
+    kind_found k e = sym (kind_step ∙ ap (λ o. unwrap_or o (kind_of (drop (i + 1) xs))) (sym e))
 
-    pub first_passed : None ≡ gives x → first_of gives other xs ≡ first_of gives other (drop (i + 1) xs)
-    first_passed e = first_step ∙ ap (λ o. unwrap_or o (first_of gives other (drop (i + 1) xs))) (sym e)
+    pub kind_passed : None ≡ kind_in x → kind_of xs ≡ kind_of (drop (i + 1) xs)
+    kind_passed e = kind_step ∙ ap (λ o. unwrap_or o (kind_of (drop (i + 1) xs))) (sym e)
 
 -- the bad lines: those so far, and those that are left
 module _ {V : Type 0} (xs : List (Option (Line V))) (i : ℕ) (bad : List BadLine) (all : bad_lines [] xs ≡ bad ++ bad_lines (take i xs) (drop i xs)) where

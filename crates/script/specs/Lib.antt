@@ -1,2 +1,4 @@
+pub mod Answers
+pub mod Lines
 pub mod Order
 pub mod Reading

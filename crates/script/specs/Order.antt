@@ -1,17 +1,14 @@
 -- The lines of a script one after the other: which are bad, what is set up, and the calls in order.
 -- Each line comes as what it means, or as nothing where it means nothing.
 use Rattle.std.specs.Prelude.{ℕ, ◌+◌, Bool, true, false, cond, ◌||◌, List, [], ◌∷◌, ◌++◌, length, Some, None, codes, Option}
-use Rattle.std.specs.Borrow.{Bor}
-use Rattle.anyrule.specs.declared.RuleForm.{RuleForm}
-use Rattle.anyrule.specs.declared.RuleForm.TheVariants.{Tree}
 use Rattle.std.specs.Option.{unwrap_or, option_to_list}
-use Rattle.lines.specs.declared.line.Call.{Call}
-use Rattle.lines.specs.declared.line.Kind.{Kind}
-use Rattle.lines.specs.declared.line.Kind.TheVariants as kind
-use Rattle.lines.specs.declared.line.Line.{Line}
-use Rattle.lines.specs.declared.line.Line.TheVariants as line
-use Rattle.lines.specs.declared.line.Setup.{Setup}
-use Rattle.lines.specs.declared.line.Setup.TheVariants.{Rule, Value}
+use Rattle.script.specs.declared.line.Call.{Call}
+use Rattle.script.specs.declared.line.Kind.{Kind}
+use Rattle.script.specs.declared.line.Kind.TheVariants as kind
+use Rattle.script.specs.declared.line.Line.{Line}
+use Rattle.script.specs.declared.line.Line.TheVariants as line
+use Rattle.script.specs.declared.line.Setup.{Setup}
+use Rattle.script.specs.declared.line.Setup.TheVariants.{Value}
 use Rattle.script.specs.declared.order.BadLine.{BadLine}
 use Rattle.script.specs.declared.order.Cause.{Cause}
 use Rattle.script.specs.declared.order.Cause.TheVariants.{Late, Twice, Unreadable}
@@ -26,26 +23,13 @@ abbrev pub any : {A : Type 0} → (A → Bool) → List A → Bool
 any test [] = false
 any test (x ∷ xs) = test x || any test xs
 
--- the first that an element gives, else this one
-abbrev pub first_of : {A B : Type 0} → (A → Option B) → B → List A → B
-first_of gives other [] = other
-first_of gives other (x ∷ xs) = unwrap_or (gives x) (first_of gives other xs)
-
 -- the two set up the same thing
 abbrev pub same_setup : Setup → Setup → Bool
-same_setup (Rule f) (Rule g) = true
-same_setup (Rule f) (Value k) = false
-same_setup (Value j) (Rule g) = false
 same_setup (Value j) (Value k) = true
 
 abbrev pub told_as : ℕ → Option Cause → List BadLine
 told_as n None = []
 told_as n (Some c) = record { number = n; cause = c } ∷ []
-
--- what a reference shows, if there is one
-abbrev pub held : {A : Type 0} → Option (Bor A) → Option A
-held None = None
-held (Some r) = Some r.now
 
 module _ {V : Type 0} where
   abbrev pub is_call : Option (Line V) → Bool
@@ -93,21 +77,10 @@ module _ {V : Type 0} where
   abbrev pub kind_in : Option (Line V) → Option Kind
   kind_in None = None
   kind_in (Some line.Nothing) = None
-  kind_in (Some (line.Setup (Rule f))) = None
   kind_in (Some (line.Setup (Value k))) = Some k
   kind_in (Some (line.Call c)) = None
 
   -- the kind of value that is set up first, else baselines
   abbrev pub kind_of : List (Option (Line V)) → Kind
-  kind_of = first_of kind_in kind.Baseline
-
-  abbrev pub rule_in : Option (Line V) → Option RuleForm
-  rule_in None = None
-  rule_in (Some line.Nothing) = None
-  rule_in (Some (line.Setup (Rule f))) = Some f
-  rule_in (Some (line.Setup (Value k))) = None
-  rule_in (Some (line.Call c)) = None
-
-  -- the rule that is asked for first, else that of the tree of degree 3 and height 3
-  abbrev pub rule_of : List (Option (Line V)) → RuleForm
-  rule_of = first_of rule_in (Tree 3 3)
+  kind_of [] = kind.Baseline
+  kind_of (x ∷ xs) = unwrap_or (kind_in x) (kind_of xs)

@@ -1,3 +1,5 @@
-//! Scripts: the lines of a text in their order, what is set up, and the calls.
+//! Scripts: a text of set-up lines and calls, and the answers as text.
+pub mod answer;
+pub mod line;
 pub mod order;
 pub mod reading;

@@ -1,10 +1,8 @@
 //! The lines of a script one after the other: which are bad, what is set up, and the calls in order.
-ghost use Rattle.anyrule.specs.Making.{Makes};
-ghost use Rattle.script.specs.Order.{any, bad_lines, call_in, calls_of, cause_text, fault_at, held, is_call, kind_in, kind_of, line_fault, rule_in, rule_of, same_setup, sets_same, setup_fault};
-ghost use Rattle.std.specs.Prelude.{◌≡◌, [], ◌++◌, IfOk, Some, codes, decimal};
+ghost use Rattle.std.specs.Prelude.{◌≡◌, ℕ, [], ◌++◌, IfOk, Some, codes, decimal};
+ghost use Rattle.script.specs.Order.{any, bad_lines, call_in, calls_of, cause_text, fault_at, is_call, kind_in, kind_of, line_fault, same_setup, sets_same, setup_fault};
 
-use anyrule::{AnyRule, FormFault, RuleForm};
-use lines::line::{Call, Kind, Line, Setup};
+use super::line::{Call, Kind, Line, Setup};
 use std::alloc::{AllocError, Global};
 use std::fmt;
 
@@ -56,21 +54,20 @@ fn is_call<V>(line: &Option<Line<V>>) -> bool
 }
 
 /// Whether the two set up the same thing.
-fn same_setup(one: &Setup, other: &Setup) -> bool
-    ensures { result ≡ same_setup one.now other.now }
+fn same_setup(one: Setup, other: Setup) -> bool
+    ensures { result ≡ same_setup one other }
 {
-    match one {
-        Setup::Rule(_) => matches!(other, Setup::Rule(_)),
-        Setup::Value(_) => matches!(other, Setup::Value(_)),
+    match (one, other) {
+        (Setup::Value(_), Setup::Value(_)) => true,
     }
 }
 
 /// Whether the line sets up the same thing.
-fn sets_same<V>(setup: &Setup, line: &Option<Line<V>>) -> bool
-    ensures { result ≡ sets_same setup.now line.now }
+fn sets_same<V>(setup: Setup, line: &Option<Line<V>>) -> bool
+    ensures { result ≡ sets_same setup line.now }
 {
     match line {
-        Some(Line::Setup(other)) => same_setup(setup, other),
+        Some(Line::Setup(other)) => same_setup(setup, *other),
         _ => false,
     }
 }
@@ -88,8 +85,8 @@ fn any_call<V>(lines: &[Option<Line<V>>]) -> bool
 }
 
 /// Whether one of the lines sets up the same thing.
-fn any_setup<V>(lines: &[Option<Line<V>>], setup: &Setup) -> bool
-    ensures { result ≡ any (sets_same setup.now) lines.now }
+fn any_setup<V>(lines: &[Option<Line<V>>], setup: Setup) -> bool
+    ensures { result ≡ any (sets_same setup) lines.now }
 {
     for line in lines {
         if sets_same(setup, line) {
@@ -114,14 +111,14 @@ fn line_fault<V>(before: &[Option<Line<V>>], line: &Line<V>) -> Option<Cause>
     ensures { result ≡ line_fault before.now line.now }
 {
     match line {
-        Line::Setup(setup) => setup_fault(before, setup),
+        Line::Setup(setup) => setup_fault(before, *setup),
         Line::Nothing | Line::Call(_) => None,
     }
 }
 
 /// What is wrong with setting this up after these lines, if anything is.
-fn setup_fault<V>(before: &[Option<Line<V>>], setup: &Setup) -> Option<Cause>
-    ensures { result ≡ setup_fault before.now setup.now }
+fn setup_fault<V>(before: &[Option<Line<V>>], setup: Setup) -> Option<Cause>
+    ensures { result ≡ setup_fault before.now setup }
 {
     if any_call(before) {
         Some(Cause::Late)
@@ -194,29 +191,4 @@ pub fn kind_of<V>(lines: &[Option<Line<V>>]) -> Kind
         }
     }
     Kind::Baseline
-}
-
-/// The rule that a line asks for, if it does.
-fn rule_in<V>(line: &Option<Line<V>>) -> Option<&RuleForm>
-    ensures { held result ≡ rule_in line.now }
-{
-    match line {
-        Some(Line::Setup(Setup::Rule(form))) => Some(form),
-        _ => None,
-    }
-}
-
-/// The rule that the lines ask for first, else that of the tree of degree 3 and height 3.
-pub fn rule_of<V>(lines: &[Option<Line<V>>]) -> Result<AnyRule, FormFault>
-    ensures { Makes (rule_of lines.now) result }
-{
-    for line in lines {
-        if let Some(form) = rule_in(line) {
-            return AnyRule::new(form);
-        }
-    }
-    AnyRule::new(&RuleForm::Tree {
-        degree: 3,
-        height: 3,
-    })
 }

@@ -1,21 +1,14 @@
 //! From a text to a script.
-ghost use Rattle.script.specs.Reading.{Reading};
-ghost use Rattle.script.specs.declared.reading.Unread.TheVariants.{Memory, Rule};
-ghost use Rattle.std.specs.Prelude.{◌≡◌};
+ghost use Rattle.script.specs.Order.{bad_lines, calls_of};
+ghost use Rattle.script.specs.Reading.{Reading, ReadsLines};
+ghost use Rattle.std.specs.Prelude.{◌≡◌, IfOk};
+ghost use Rattle.script.specs.declared.reading.Unread.TheVariants.{Memory};
 
-use super::order::{BadLine, bad_lines, calls_of, rule_of};
-use anyrule::{AnyRule, FormFault};
-use lines::line::Call;
-use lines::reading::read_lines;
+use super::line::{Call, Line, read_line};
+use super::order::{BadLine, bad_lines, calls_of};
+use notation::words::cut_words;
 use notation::written::Written;
 use std::alloc::{AllocError, Global};
-
-/// A script: its rule, and its calls in order.
-#[derive(Drop)]
-pub struct Script<V> {
-    pub rule: AnyRule,
-    pub calls: Vec<Call<V>>,
-}
 
 /// Why there is no script.
 #[derive(Debug, Drop)]
@@ -24,8 +17,6 @@ pub enum Unread {
     Memory,
     /// These lines are bad.
     Bad(Vec<BadLine>),
-    /// The rule is refused.
-    Rule(FormFault),
 }
 
 impl From<AllocError> for Unread {
@@ -36,16 +27,23 @@ impl From<AllocError> for Unread {
     }
 }
 
-impl From<FormFault> for Unread {
-    ghost from_gives = { λ f r. r ≡ Rule f };
-
-    fn from(fault: FormFault) -> Unread {
-        Unread::Rule(fault)
+/// What each line of the text means, or `None` where it means nothing.
+pub fn read_lines<V: Written + Drop>(
+    heap: Global,
+    text: &str,
+) -> Result<Vec<Option<Line<V>>>, AllocError>
+    ensures { IfOk result (λ v. ReadsLines V.Written.written text.now v.items) }
+{
+    let mut lines = Vec::new(heap);
+    for line in text.lines() {
+        let words = cut_words(heap, line)?;
+        lines.push(read_line::<V>(words.as_slice()))?;
     }
+    Ok(lines)
 }
 
-/// The script that the text is. Refused where a line is bad, with all that are, and else where there is no such rule.
-pub fn read_script<V: Written + Drop>(heap: Global, text: &str) -> Result<Script<V>, Unread>
+/// The calls of the script that the text is, in order; refused where a line is bad, with all that are.
+pub fn read_script<V: Written + Drop>(heap: Global, text: &str) -> Result<Vec<Call<V>>, Unread>
     ensures { Reading V.Written.written text.now result }
 {
     let lines = read_lines::<V>(heap, text)?;
@@ -53,7 +51,5 @@ pub fn read_script<V: Written + Drop>(heap: Global, text: &str) -> Result<Script
     if !bad.is_empty() {
         return Err(Unread::Bad(bad));
     }
-    let rule = rule_of(lines.as_slice())?;
-    let calls = calls_of(heap, lines)?;
-    Ok(Script { rule, calls })
+    Ok(calls_of(heap, lines)?)
 }

@@ -10,15 +10,14 @@ use Rattle.families.specs.declared.Quorum.{Quorum}
 use Rattle.families.specs.declared.Quorum.TheVariants.{Read, Write}
 use Rattle.parts.specs.Parts.{component_in, component_payload}
 use Rattle.quorum.specs.Choosing.{no_quorum}
-use Rattle.quorum.specs.Faults.{rule_line}
+use Rattle.quorum.specs.Faults.{rule_line, tree_line}
+use Rattle.quorum.specs.Shapes.{allowed_tree}
+use Rattle.quorum.specs.Voting.{NoVotesRule, Small}
 use Rattle.quorum.specs.declared.fault.RuleFault.TheVariants.{VotesNotAllowed}
-use Rattle.trees.specs.Faults.{tree_line}
-use Rattle.trees.specs.Shapes.{allowed_tree}
-use Rattle.trees.specs.declared.TreeFault.TheVariants.{NotAllowed}
+use Rattle.quorum.specs.declared.fault.TreeFault.TheVariants.{NotAllowed}
 use Rattle.values.specs.Faults.{value_line}
 use Rattle.values.specs.declared.fault.Part.TheVariants.{First}
 use Rattle.values.specs.declared.fault.ValueFault.TheVariants.{OutOfRange}
-use Rattle.votesrule.specs.Voting.{NoVotesRule, Small}
 
 pub data Case : Type 0 where
   -- a rule chooses, while these copies are away

@@ -1,7 +1,7 @@
-use Rattle.std.proofs.Common.{◌≡◌, min, length, ap, ◌∙◌, subst, arith}
+use Rattle.std.proofs.Common.{◌≡◌, ◌+◌, ◌||◌, eqb, length, sym, ap, ◌∙◌, subst, arith}
 use Rattle.families.specs.Copies.{marked}
 use Rattle.quorum.specs.Sets.{Same, members}
-use Rattle.quorum.proofs.Marked.{looked_no, looked_yes, marked_none}
+use Rattle.quorum.proofs.Marked.{marked_no, marked_none, marked_yes}
 use Rattle.quorum.proofs.marks.marked_set.Goals as goal
 use Rattle.quorum.proofs.marks.marked_set.Goals.{else-mark-ne0, then-mark-ne0}
 
@@ -12,15 +12,13 @@ pub loop-i-preserved : goal.loop-i-preserved
 loop-i-preserved c =
     let i = c.loop-i.i in
     let reach = c.args.reach.now in
-    let s = members c.loop-i.set in
     elim c.if-mark-ne0.branch [
-      | then-mark-ne0 w ↦
-          rw w.set-is
-          (looked_yes reach i s c.loop-i.invariant w.if-mark-ne0.true (members w.insert.new.self) w.insert.ensures.within (λ l k. ap (λ t. members t k) (w.insert.ensures.past l)))
-      | else-mark-ne0 w ↦ rw w.set-is (looked_no reach i s c.loop-i.invariant w.if-mark-ne0.false)
+      | then-mark-ne0 w ↦ λ k.
+          ap (λ s. members s k) w.set-is ∙ w.insert.ensures k ∙ ap (λ b. eqb (i + 1) k || b) (c.loop-i.invariant k) ∙ marked_yes reach i k w.if-mark-ne0.true
+      | else-mark-ne0 w ↦ λ k. ap (λ s. members s k) w.set-is ∙ c.loop-i.invariant k ∙ marked_no reach i k w.if-mark-ne0.false
     ]
 
 pub returns : goal.returns
 returns c =
     let all : c.loop-i.i ≡ length c.args.reach.now = omega arith in
-    subst (λ n. Same (members c.loop-i.set) (marked (min n 64) c.args.reach.now)) all c.loop-i.invariant
+    subst (λ n. Same (members c.loop-i.set) (marked n c.args.reach.now)) all c.loop-i.invariant

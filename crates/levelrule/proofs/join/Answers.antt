@@ -1,5 +1,0 @@
-use Rattle.levelrule.proofs.Joining.{joined_write}
-use Rattle.levelrule.proofs.join.Goals as goal
-
-pub returns-in-Write : goal.returns-in-Write
-returns-in-Write c = λ x y i k. rw c.in-Write.is (joined_write c.args.one c.args.other c.both.result x y c.both.ensures i k)

@@ -1,0 +1,26 @@
+use Rattle.std.proofs.Common.{◌≡◌, ◌/◌, ◌≤◌, length, sym, refl, ap, ◌∙◌, subst}
+use Rattle.families.specs.Copies.{marked}
+use Rattle.families.specs.Levels.{level_choice, levels_rule}
+use Rattle.families.specs.Trees.{copies_of}
+use Rattle.quorum.specs.Sets.{Is, members}
+use Rattle.quorum.proofs.Given.{from_marks, given_chooses}
+use Rattle.quorum.specs.RuleLaws.{levels_keep}
+use Rattle.quorum.proofs.level_rule.LevelRule.choose.Goals as goal
+
+pub returns : goal.returns
+returns c =
+    let tree = c.args.self.now.tree in
+    let d = tree.degree / 2 in
+    let h = tree.height in
+    let n = copies_of d h in
+    let reach = c.args.reach.now in
+    let fit = c.in-ok-check-lengths.ensures in
+    let here : length reach ≡ n = fit.0 ∙ c.copies.ensures.0 in
+    let chosen : Is c.choose-to-level-set.result (level_choice c.args.quorum d h (members c.marked-set.result)) =
+    subst (λ b. Is c.choose-to-level-set.result (level_choice c.args.quorum (b / 2) h (members c.marked-set.result))) c.degree.ensures
+    (subst (λ k. Is c.choose-to-level-set.result (level_choice c.args.quorum (c.degree.result / 2) k (members c.marked-set.result))) c.height-height.ensures c.choose-to-level-set.ensures) in
+    let is : Is c.choose-to-level-set.result (level_choice c.args.quorum d h (marked n reach)) =
+    subst (λ k. Is c.choose-to-level-set.result (level_choice c.args.quorum d h (marked k reach))) here
+    (from_marks (λ s. Is c.choose-to-level-set.result (level_choice c.args.quorum d h s)) (members c.marked-set.result) (marked (length reach) reach) c.marked-set.ensures chosen) in
+    given_chooses (levels_rule d h) (levels_keep tree) c.args.quorum reach c.args.choice.now c.give.new.choice
+    c.choose-to-level-set.result (level_choice c.args.quorum d h (marked n reach)) refl is (here, fit.1 ∙ c.copies.ensures.0) c.give.result c.give.ensures

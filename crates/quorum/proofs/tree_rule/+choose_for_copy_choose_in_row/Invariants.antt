@@ -1,0 +1,16 @@
+use Rattle.std.proofs.Common.{suc, ◌+◌, ◌*◌, ◌≤◌, drop}
+use Rattle.quorum.specs.Sets.{members}
+use Rattle.families.specs.Trees.{choice}
+use Rattle.quorum.proofs.Gathering.{Gathered}
+use Rattle.quorum.proofs.tree_rule.+choose_for_copy_choose_in_row.Given as goal
+
+abbrev pub decreases-choose-for-copy : goal.decreases-choose-for-copy
+decreases-choose-for-copy l = 2 * l.height
+
+abbrev pub decreases-choose-in-row : goal.decreases-choose-in-row
+decreases-choose-in-row l = 2 * l.height + 1
+
+abbrev pub invariant-choose-in-row-loop-child : goal.invariant-choose-in-row-loop-child
+invariant-choose-in-row-loop-child l =
+    Gathered (choice l.quorum l.half l.height (members l.reach)) (suc l.half) l.row
+    l.chosen l.wanted (drop l.child-index l.row)

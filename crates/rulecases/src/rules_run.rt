@@ -1,0 +1,87 @@
+//! Scripts that set up a rule, and calls that choose.
+use answers::{answers_to, summary_of};
+use notation::written::Written;
+use rulescript::reading::{Unread, read_script};
+use std::alloc::{AllocError, Global};
+use std::test::Fail;
+use values::baseline::Baseline;
+
+/// The answers and the summary, or the bad lines, a line each, or why there is no such rule.
+fn outcome<V: Written + Drop>(heap: Global, text: &str) -> Result<String, AllocError> {
+    let mut out = String::new(heap);
+    match read_script::<V>(heap, text) {
+        Ok(script) => {
+            let answers = answers_to(heap, &script.rule, script.calls.as_slice())?;
+            for answer in answers.as_slice() {
+                out.push_str(format!(in heap; "{answer}\n")?.as_str())?;
+            }
+            let summary = summary_of(answers.as_slice());
+            out.push_str(format!(in heap; "{summary}")?.as_str())?;
+        }
+        Err(Unread::Bad(lines)) => {
+            for line in lines.as_slice() {
+                out.push_str(format!(in heap; "{line}\n")?.as_str())?;
+            }
+        }
+        Err(Unread::Rule(fault)) => out.push_str(format!(in heap; "rule: {fault}")?.as_str())?,
+        Err(Unread::Memory) => out.push_str("no memory")?,
+    }
+    Ok(out)
+}
+
+#[test]
+fn choices_by_number(rt: HostRuntime) -> Result<(), Fail> {
+    for (text, told) in [
+        (
+            "choose read\nchoose write\n",
+            "choose read: 1\nchoose write: 1 2 3 5 6 8 9 14 15 17 18 23 24 26 27\n2 calls: 2 accepted, 0 refused",
+        ),
+        (
+            "rule tree 3 2\nchoose read away 1 2 3\nchoose write away 1\nchoose read away 1 3 2 3 1\n",
+            "choose read: 4 5 6\nchoose write: refused 7, rule, place 0\nchoose read: 4 5 6\n3 calls: 2 accepted, 1 refused",
+        ),
+        (
+            "rule levels 3 2\nchoose write away 4 7 8 11 12\nchoose read away 1\n",
+            "choose write: 1 2 3 5 6 9 10 13\nchoose read: 2 3\n2 calls: 2 accepted, 0 refused",
+        ),
+        (
+            "rule votes 3 2 1 1 0\nchoose write\nchoose read away 1\nchoose read away 1 2 3\n",
+            "choose write: 1 2\nchoose read: 2 3\nchoose read: refused 6, rule, place 0\n3 calls: 2 accepted, 1 refused",
+        ),
+        (
+            "rule tree 3 2\nchoose read away 13 14 0\nchoose write away 0\nchoose read away 13\n",
+            "choose read: no such copy 14\nchoose write: no such copy 0\nchoose read: 1\n3 calls: 1 accepted, 2 refused",
+        ),
+    ] {
+        assert_eq!(rt; outcome::<Baseline>(rt.alloc(), text)?.as_str(), told);
+    }
+    Ok(())
+}
+
+#[test]
+fn rules_that_are_refused(rt: HostRuntime) -> Result<(), Fail> {
+    for (text, told) in [
+        (
+            "rule tree 3 4\nchoose read",
+            "rule: refused 15, tree, place 0",
+        ),
+        ("rule levels 4 1", "rule: refused 15, tree, place 0"),
+        ("rule votes 2 2 1 1 0", "rule: refused 16, rule, place 0"),
+        ("rule votes 3 2 1 256", "rule: refused 16, rule, place 0"),
+        ("rule votes 1", "rule: refused 14, rule, place 1"),
+    ] {
+        assert_eq!(rt; outcome::<Baseline>(rt.alloc(), text)?.as_str(), told);
+    }
+    Ok(())
+}
+
+#[test]
+fn bad_lines_for_rules_and_choices(rt: HostRuntime) -> Result<(), Fail> {
+    let text =
+        "rule\nrule tree 3\nrule tree 3 2 1\nrule votes\nrule levels 3 x\nrule tree 3 4\nrule votes 1 1\nchoose\nchoose both\nchoose read away\nchoose read 1\nchoose read away 1 two\nchoose read away 4294967296\nchoose write\nrule tree 3 2\naway 1\nback 1";
+    assert_eq!(rt;
+        outcome::<Baseline>(rt.alloc(), text)?.as_str(),
+        "line 1: cannot be read\nline 2: cannot be read\nline 3: cannot be read\nline 4: cannot be read\nline 5: cannot be read\nline 7: set up already\nline 8: cannot be read\nline 9: cannot be read\nline 10: cannot be read\nline 11: cannot be read\nline 12: cannot be read\nline 13: cannot be read\nline 15: set-up after the first call\nline 16: cannot be read\nline 17: cannot be read\n"
+    );
+    Ok(())
+}

@@ -1,0 +1,26 @@
+use Rattle.std.proofs.Common.{◌≡◌, ◌+◌, ◌++◌, take, vec_items, sym, ap, ◌∙◌, append-nil}
+use native.Mathlib.Nat.{sub-zero}
+use Rattle.std.proofs.lemmas.Result.{IfOk-from_err}
+use Rattle.rulescript.specs.Order.{fault_at, told_as}
+use Rattle.rulescript.proofs.Ordering.{bad_end, bad_more}
+use Rattle.rulescript.proofs.order.bad_lines.Goals as goal
+use Rattle.rulescript.proofs.order.bad_lines.Goals.{in-Some+in-ok-push, in-default}
+
+pub returns-in-err-push : goal.returns-in-err-push
+returns-in-err-push g c = IfOk-from_err c.from-residual.result _ c.from-residual.ensures.0
+
+pub loop-i-preserved : goal.loop-i-preserved
+loop-i-preserved g c =
+    let i = c.loop-i.i in
+    let old = vec_items c.loop-i.bad in
+    let more = bad_more c.args.lines.now i old c.loop-i.invariant c.index-lines-i.result c.loop-i-test.true c.index-lines-i.is c.fault-at.result
+    (c.fault-at.ensures ∙ ap (λ n. fault_at (take n c.args.lines.now) c.index-lines-i.result) (sub-zero i)) in
+    let same : vec_items c.match-fault-at.bad ≡ old ++ told_as (i + 1) c.fault-at.result =
+    elim c.match-fault-at.branch [
+      | in-Some+in-ok-push w ↦ ap vec_items w.bad-is ∙ w.in-ok-push.ensures.items ∙ ap (λ f. old ++ told_as (i + 1) f) (sym w.in-Some.is)
+      | in-default w ↦ ap vec_items w.bad-is ∙ sym (append-nil old) ∙ ap (λ f. old ++ told_as (i + 1) f) (sym w.in-default.is)
+    ] in
+    rw same more
+
+pub returns : goal.returns
+returns g c = bad_end c.args.lines.now c.loop-i.i (vec_items c.loop-i.bad) c.loop-i.invariant c.loop-i-test.false

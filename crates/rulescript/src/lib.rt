@@ -1,0 +1,3 @@
+//! Scripts: the lines of a text in their order, what is set up, and the calls.
+pub mod order;
+pub mod reading;

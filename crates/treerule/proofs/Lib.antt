@@ -1,3 +1,0 @@
-mod CopyChoices
-mod Fitting
-mod RowProofs

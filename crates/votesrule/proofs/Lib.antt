@@ -1,2 +1,0 @@
-pub mod RuleLaws
-mod VoteCounting

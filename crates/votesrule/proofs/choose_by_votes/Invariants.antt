@@ -1,7 +1,0 @@
-use Rattle.std.proofs.Common.{◌+◌, drop}
-use Rattle.quorum.specs.Sets.{members}
-use Rattle.votesrule.proofs.VoteCounting.{Counted}
-use Rattle.votesrule.proofs.choose_by_votes.Given as goal
-
-abbrev pub invariant-loop-i : goal.invariant-loop-i
-invariant-loop-i l = Counted l.threshold l.votes (members l.reach) l.chosen l.wanted (l.i + 1) (drop l.i l.votes)
