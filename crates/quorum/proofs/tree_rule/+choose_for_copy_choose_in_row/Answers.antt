@@ -30,7 +30,7 @@ choose-for-copy-near-first-row-requires t c =
 
 pub choose-for-copy-choose-in-row-requires : goal.choose-for-copy-choose-in-row-requires
 choose-for-copy-choose-in-row-requires t c =
-    (search rules, (c.requires.small, rw (front (2 * c.args.half + 1) c.near-first-row.result c.near-first-row.ensures) (near_first_fits _ _ _ _ (above _ c.if-height-eq0.false) c.requires.fits _)))
+    (search rules, (c.requires.small, rw (front (2 * c.args.half + 1) c.near_first-row.result c.near_first-row.ensures) (near_first_fits _ _ _ _ (above _ c.if-height-eq0.false) c.requires.fits _)))
 
 pub choose-for-copy-by-number-row-requires : goal.choose-for-copy-by-number-row-requires
 choose-for-copy-by-number-row-requires t c = (c.requires.small, (c.requires.fits.from_one, copy_marked _ _ _ c.requires.fits))
@@ -38,12 +38,12 @@ choose-for-copy-by-number-row-requires t c = (c.requires.small, (c.requires.fits
 pub choose-for-copy-choose-in-row-requires-then-here-3 :
     goal.choose-for-copy-choose-in-row-requires-then-here-3
 choose-for-copy-choose-in-row-requires-then-here-3 t c =
-    (search rules, (c.requires.small, rw (front (2 * c.args.half + 1) c.by-number-row.result c.by-number-row.ensures) (children_fit _ _ _ _ (above _ c.if-height-eq0.false) c.requires.fits)))
+    (search rules, (c.requires.small, rw (front (2 * c.args.half + 1) c.by_number-row.result c.by_number-row.ensures) (children_fit _ _ _ _ (above _ c.if-height-eq0.false) c.requires.fits)))
 
 pub choose-for-copy-returns-in-err-chosen : goal.choose-for-copy-returns-in-err-chosen
 choose-for-copy-returns-in-err-chosen t c =
-    rw c.from-residual.ensures
-    (writing_none _ _ _ _ _ _ (above _ c.if-height-eq0.false) _ c.in-Write.is (sym c.if-here-3.ensures) (front (2 * c.args.half + 1) c.by-number-row.result c.by-number-row.ensures) c.in-err-chosen.ensures)
+    rw c.from_residual.ensures
+    (writing_none _ _ _ _ _ _ (above _ c.if-height-eq0.false) _ c.in-Write.is (sym c.if-here-3.ensures) (front (2 * c.args.half + 1) c.by_number-row.result c.by_number-row.ensures) c.in_err-chosen-in-Write.ensures)
 
 pub choose-for-copy-insert-requires : goal.choose-for-copy-insert-requires
 choose-for-copy-insert-requires t c = copy_marked _ _ _ c.requires.fits
@@ -54,11 +54,11 @@ choose-for-copy-returns-then-here-2 t c =
 
 pub choose-for-copy-returns-else-here-2 : goal.choose-for-copy-returns-else-here-2
 choose-for-copy-returns-else-here-2 t c =
-    reading_away _ _ _ _ _ _ (above _ c.if-height-eq0.false) _ _ c.in-Read.is (sym c.if-here-2.ensures) (front (2 * c.args.half + 1) c.near-first-row.result c.near-first-row.ensures) c.choose-in-row.ensures
+    reading_away _ _ _ _ _ _ (above _ c.if-height-eq0.false) _ _ c.in-Read.is (sym c.if-here-2.ensures) (front (2 * c.args.half + 1) c.near_first-row.result c.near_first-row.ensures) c.choose_in_row.ensures
 
 pub choose-for-copy-returns-in-ok-chosen : goal.choose-for-copy-returns-in-ok-chosen
 choose-for-copy-returns-in-ok-chosen t c =
-    writing_here _ _ _ _ _ _ (above _ c.if-height-eq0.false) _ _ _ c.in-Write.is (sym c.if-here-3.ensures) (front (2 * c.args.half + 1) c.by-number-row.result c.by-number-row.ensures) c.in-ok-chosen.ensures c.insert.ensures
+    writing_here _ _ _ _ _ _ (above _ c.if-height-eq0.false) _ _ _ c.in-Write.is (sym c.if-here-3.ensures) (front (2 * c.args.half + 1) c.by_number-row.result c.by_number-row.ensures) c.in_ok-chosen-in-Write.ensures c.insert.ensures
 
 pub choose-for-copy-returns-else-here-3 : goal.choose-for-copy-returns-else-here-3
 choose-for-copy-returns-else-here-3 t c =
@@ -89,7 +89,7 @@ choose-in-row-loop-child-preserved t c =
     in
     elim c.if-wanted-gt0.branch [
       | choose-in-row-then-wanted-gt0+in-Some w ↦
-          gathered_take f (suc c.args.half) row c.loop-child.chosen w.in-Some.below c.if-wanted-gt0.chosen c.loop-child.wanted c.if-wanted-gt0.wanted (get_or row i 0) (drop (i + 1) row) w.in-Some.ensures (omega (arith, w.wanted-is, w.if-wanted-gt0.true)) (rw w.chosen-is w.add-all.ensures) g
+          gathered_take f (suc c.args.half) row c.loop-child.chosen w.in-Some.below c.if-wanted-gt0.chosen c.loop-child.wanted c.if-wanted-gt0.wanted (get_or row i 0) (drop (i + 1) row) w.in-Some.ensures (omega (arith, w.wanted-is, w.if-wanted-gt0.true)) (rw w.chosen-is w.add_all.ensures) g
       | choose-in-row-then-wanted-gt0+in-default w ↦
           rw (w.chosen-is, w.wanted-is) (gathered_skip f (suc c.args.half) row c.loop-child.chosen c.loop-child.wanted (get_or row i 0) (drop (i + 1) row) w.in-default.ensures g)
       | choose-in-row-else-wanted-gt0 w ↦

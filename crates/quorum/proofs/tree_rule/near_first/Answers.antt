@@ -28,11 +28,11 @@ fits_one_more c =
 pub bounds-row-len-then-not-has : goal.bounds-row-len-then-not-has
 bounds-row-len-then-not-has c = fits_one_more c
 
-pub offset-bounds-row-len-then-not-has : goal.offset-bounds-row-len-then-not-has
-offset-bounds-row-len-then-not-has c = let h : c.loop-j.len < 9 = fits_one_more c in search rules
+pub offset_bounds-row-len-then-not-has : goal.offset_bounds-row-len-then-not-has
+offset_bounds-row-len-then-not-has c = let h : c.loop-j.len < 9 = fits_one_more c in search rules
 
-pub overflow-add-len-then-not-has : goal.overflow-add-len-then-not-has
-overflow-add-len-then-not-has c = let h : c.loop-j.len < 9 = fits_one_more c in search rules
+pub overflow_add-len-then-not-has : goal.overflow_add-len-then-not-has
+overflow_add-len-then-not-has c = let h : c.loop-j.len < 9 = fits_one_more c in search rules
 
 pub loop-j-preserved : goal.loop-j-preserved
 loop-j-preserved c =

@@ -22,7 +22,7 @@ loop-i-preserved c =
     elim c.if-wanted-gt0.branch [
       | then-wanted-gt0+then-vote-ne0+then-has w ↦
           counted_take t votes s c.loop-i.chosen c.if-wanted-gt0.chosen c.loop-i.wanted c.if-wanted-gt0.wanted (i + 1) v rest
-          (omega (arith, w.if-wanted-gt0.true)) (w.wanted-is ∙ w.saturating-sub-wanted.ensures ∙ ap (λ k. c.loop-i.wanted - k) w.from.ensures) (is_taken (s (i + 1)) v (sym w.if-has.ensures) w.if-vote-ne0.true) (rw w.chosen-is w.insert.ensures) g
+          (omega (arith, w.if-wanted-gt0.true)) (w.wanted-is ∙ w.saturating_sub-wanted.ensures ∙ ap (λ k. c.loop-i.wanted - k) w.from.ensures) (is_taken (s (i + 1)) v (sym w.if-has.ensures) w.if-vote-ne0.true) (rw w.chosen-is w.insert.ensures) g
       | else-wanted-gt0 w ↦
           rw (w.chosen-is, w.wanted-is) (elim w.else-wanted-gt0.branch [
             | else-wanted-gt0-via-then-wanted-gt0+then-vote-ne0+else-has w' ↦ counted_skip t votes s c.loop-i.chosen c.loop-i.wanted (i + 1) v rest (is_away (s (i + 1)) v (sym w'.if-has.ensures)) g

@@ -14,13 +14,13 @@ returns c =
     let h = tree.height in
     let n = copies_of d h in
     let reach = c.args.reach.now in
-    let fit = c.in-ok-check-lengths.ensures in
+    let fit = c.in_ok-check_lengths.ensures in
     let here : length reach ≡ n = fit.0 ∙ c.copies.ensures.0 in
-    let chosen : Is c.choose-to-level-set.result (level_choice c.args.quorum d h (members c.marked-set.result)) =
-    subst (λ b. Is c.choose-to-level-set.result (level_choice c.args.quorum (b / 2) h (members c.marked-set.result))) c.degree.ensures
-    (subst (λ k. Is c.choose-to-level-set.result (level_choice c.args.quorum (c.degree.result / 2) k (members c.marked-set.result))) c.height-height.ensures c.choose-to-level-set.ensures) in
-    let is : Is c.choose-to-level-set.result (level_choice c.args.quorum d h (marked n reach)) =
-    subst (λ k. Is c.choose-to-level-set.result (level_choice c.args.quorum d h (marked k reach))) here
-    (from_marks (λ s. Is c.choose-to-level-set.result (level_choice c.args.quorum d h s)) (members c.marked-set.result) (marked (length reach) reach) c.marked-set.ensures chosen) in
+    let chosen : Is c.choose_to_level-set.result (level_choice c.args.quorum d h (members c.marked_set.result)) =
+    subst (λ b. Is c.choose_to_level-set.result (level_choice c.args.quorum (b / 2) h (members c.marked_set.result))) c.degree.ensures
+    (subst (λ k. Is c.choose_to_level-set.result (level_choice c.args.quorum (c.degree.result / 2) k (members c.marked_set.result))) c.height-height.ensures c.choose_to_level-set.ensures) in
+    let is : Is c.choose_to_level-set.result (level_choice c.args.quorum d h (marked n reach)) =
+    subst (λ k. Is c.choose_to_level-set.result (level_choice c.args.quorum d h (marked k reach))) here
+    (from_marks (λ s. Is c.choose_to_level-set.result (level_choice c.args.quorum d h s)) (members c.marked_set.result) (marked (length reach) reach) c.marked_set.ensures chosen) in
     given_chooses (levels_rule d h) (levels_keep tree) c.args.quorum reach c.args.choice.now c.give.new.choice
-    c.choose-to-level-set.result (level_choice c.args.quorum d h (marked n reach)) refl is (here, fit.1 ∙ c.copies.ensures.0) c.give.result c.give.ensures
+    c.choose_to_level-set.result (level_choice c.args.quorum d h (marked n reach)) refl is (here, fit.1 ∙ c.copies.ensures.0) c.give.result c.give.ensures

@@ -11,8 +11,8 @@ level_fits : (b h k : ℕ) → allowed_tree b h ≡ true → k < h + 1 → (b / 
 level_fits b h k a l =
     (low_degree b h a, omega (arith, level_end (b / 2) k, level_bounds (b / 2) k h (omega arith), few_copies b h a))
 
-pub level-span-first-requires : goal.level-span-first-requires
-level-span-first-requires c =
+pub level_span-first-requires : goal.level_span-first-requires
+level_span-first-requires c =
     let tree = c.args.tree in
     let k = c.loop-level.level in
     subst (λ b. (b / 2 ≤ 4) × (last_copy (b / 2) k 1 < 65)) (sym c.degree.ensures)
@@ -22,6 +22,6 @@ level-span-first-requires c =
 odd_level : (d k size : ℕ) → size ≡ level_size d k → size % 2 ≡ 0 → ⊥
 odd_level d k size e even = let o = level_odd d k in absurd (omega (arith, e, o.is, even))
 
-pub returns-in-err-check-odd : goal.returns-in-err-check-odd
-returns-in-err-check-odd c =
-    absurd (odd_level (c.degree.result / 2) c.loop-level.level c.level-span-first.result.1 c.level-span-first.ensures.1 c.in-err-check-odd.ensures.1)
+pub returns-in_err-check_odd : goal.returns-in_err-check_odd
+returns-in_err-check_odd c =
+    absurd (odd_level (c.degree.result / 2) c.loop-level.level c.level_span-first.result.1 c.level_span-first.ensures.1 c.in_err-check_odd.ensures.1)

@@ -7,24 +7,24 @@ use Rattle.quorum.proofs.tree.Tree.copies.Goals as goal
 pub loop-level-init : goal.loop-level-init
 loop-level-init c = ap (λ k. last_copy (c.args.self.now.degree / 2) k 1) (sym (sub-zero c.args.self.now.height))
 
-passed : (c : goal.In-loop-level) → copies_of (c.args.self.now.degree / 2) c.args.self.now.height ≡ last_copy (c.args.self.now.degree / 2) (c.args.self.now.height - (c.loop-level.-level + 1)) (c.loop-level.last * c.args.self.now.degree + 1)
+passed : (c : goal.In-loop-level) → copies_of (c.args.self.now.degree / 2) c.args.self.now.height ≡ last_copy (c.args.self.now.degree / 2) (c.args.self.now.height - (c.loop-level._level + 1)) (c.loop-level.last * c.args.self.now.degree + 1)
 passed c =
     let tree = c.args.self.now in
-    level_passed (copies_of (tree.degree / 2) tree.height) (tree.degree / 2) tree.height c.loop-level.-level c.loop-level.last tree.degree
+    level_passed (copies_of (tree.degree / 2) tree.height) (tree.degree / 2) tree.height c.loop-level._level c.loop-level.last tree.degree
     (odd_degree tree.degree tree.height tree.allowed) c.loop-level-test.true c.loop-level.invariant
 
 small : (c : goal.In-loop-level) → c.loop-level.last * c.args.self.now.degree + 1 ≤ 57
 small c =
     let tree = c.args.self.now in
     let below : c.loop-level.last * tree.degree + 1 ≤ copies_of (tree.degree / 2) tree.height =
-    level_below (copies_of (tree.degree / 2) tree.height) (tree.degree / 2) (tree.height - (c.loop-level.-level + 1)) (c.loop-level.last * tree.degree + 1) (passed c) in
+    level_below (copies_of (tree.degree / 2) tree.height) (tree.degree / 2) (tree.height - (c.loop-level._level + 1)) (c.loop-level.last * tree.degree + 1) (passed c) in
     omega (arith, few_copies tree.degree tree.height tree.allowed)
 
-pub overflow-mul-last : goal.overflow-mul-last
-overflow-mul-last c = omega (arith, small c)
+pub overflow_mul-last : goal.overflow_mul-last
+overflow_mul-last c = omega (arith, small c)
 
-pub overflow-add-last : goal.overflow-add-last
-overflow-add-last c = omega (arith, small c)
+pub overflow_add-last : goal.overflow_add-last
+overflow_add-last c = omega (arith, small c)
 
 pub loop-level-preserved : goal.loop-level-preserved
 loop-level-preserved c = passed c
@@ -32,6 +32,6 @@ loop-level-preserved c = passed c
 pub returns : goal.returns
 returns c =
     let tree = c.args.self.now in
-    let done : tree.height - c.loop-level.-level ≡ 0 = omega arith in
+    let done : tree.height - c.loop-level._level ≡ 0 = omega arith in
     let last : copies_of (tree.degree / 2) tree.height ≡ c.loop-level.last = c.loop-level.invariant ∙ ap (λ k. last_copy (tree.degree / 2) k c.loop-level.last) done in
     (sym last, omega (arith, last, few_copies tree.degree tree.height tree.allowed))

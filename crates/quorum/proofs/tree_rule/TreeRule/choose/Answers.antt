@@ -15,11 +15,11 @@ returns c =
     let reach = c.args.reach.now in
     let fit = c.in-ok-check-lengths.ensures in
     let here : length reach ≡ n = fit.0 ∙ c.copies.ensures.0 in
-    let chosen : Is c.choose-for-copy-set.result (choice c.args.quorum d h (members c.marked-set.result) 1) =
-    subst (λ b. Is c.choose-for-copy-set.result (choice c.args.quorum (b / 2) h (members c.marked-set.result) 1)) c.degree.ensures
-    (subst (λ k. Is c.choose-for-copy-set.result (choice c.args.quorum (c.degree.result / 2) k (members c.marked-set.result) 1)) c.height-height.ensures c.choose-for-copy-set.ensures) in
-    let is : Is c.choose-for-copy-set.result (choice c.args.quorum d h (marked n reach) 1) =
-    subst (λ k. Is c.choose-for-copy-set.result (choice c.args.quorum d h (marked k reach) 1)) here
-    (from_marks (λ s. Is c.choose-for-copy-set.result (choice c.args.quorum d h s 1)) (members c.marked-set.result) (marked (length reach) reach) c.marked-set.ensures chosen) in
+    let chosen : Is c.choose_for_copy-set.result (choice c.args.quorum d h (members c.marked_set.result) 1) =
+    subst (λ b. Is c.choose_for_copy-set.result (choice c.args.quorum (b / 2) h (members c.marked_set.result) 1)) c.degree.ensures
+    (subst (λ k. Is c.choose_for_copy-set.result (choice c.args.quorum (c.degree.result / 2) k (members c.marked_set.result) 1)) c.height-height.ensures c.choose_for_copy-set.ensures) in
+    let is : Is c.choose_for_copy-set.result (choice c.args.quorum d h (marked n reach) 1) =
+    subst (λ k. Is c.choose_for_copy-set.result (choice c.args.quorum d h (marked k reach) 1)) here
+    (from_marks (λ s. Is c.choose_for_copy-set.result (choice c.args.quorum d h s 1)) (members c.marked_set.result) (marked (length reach) reach) c.marked_set.ensures chosen) in
     given_chooses (tree_rule d h) (tree_keeps tree) c.args.quorum reach c.args.choice.now c.give.new.choice
-    c.choose-for-copy-set.result (choice c.args.quorum d h (marked n reach) 1) refl is (here, fit.1 ∙ c.copies.ensures.0) c.give.result c.give.ensures
+    c.choose_for_copy-set.result (choice c.args.quorum d h (marked n reach) 1) refl is (here, fit.1 ∙ c.copies.ensures.0) c.give.result c.give.ensures

@@ -15,14 +15,14 @@ returns c =
     let t = threshold c.args.quorum votes w in
     let n = length votes in
     let reach = c.args.reach.now in
-    let set = c.choose-by-votes-set.result in
-    let fit = c.in-ok-check-lengths.ensures in
+    let set = c.choose_by_votes-set.result in
+    let fit = c.in_ok-check_lengths.ensures in
     let here : length reach ≡ n = fit.0 ∙ sym rule.whole in
-    let chosen : Is set (votes_choice t 1 votes (members c.marked-set.result)) =
-    subst (λ k. Is set (votes_choice k 1 votes (members c.marked-set.result))) c.threshold-for-threshold.ensures
-    (subst (λ n. Is set (votes_choice c.threshold-for-threshold.result 1 (take n rule.votes) (members c.marked-set.result))) (sub-zero rule.count) c.choose-by-votes-set.ensures) in
+    let chosen : Is set (votes_choice t 1 votes (members c.marked_set.result)) =
+    subst (λ k. Is set (votes_choice k 1 votes (members c.marked_set.result))) c.threshold_for-threshold.ensures
+    (subst (λ n. Is set (votes_choice c.threshold_for-threshold.result 1 (take n rule.votes) (members c.marked_set.result))) (sub-zero rule.count) c.choose_by_votes-set.ensures) in
     let is : Is set (votes_choice t 1 votes (marked n reach)) =
     subst (λ k. Is set (votes_choice t 1 votes (marked k reach))) here
-    (from_marks (λ s. Is set (votes_choice t 1 votes s)) (members c.marked-set.result) (marked (length reach) reach) c.marked-set.ensures chosen) in
+    (from_marks (λ s. Is set (votes_choice t 1 votes s)) (members c.marked_set.result) (marked (length reach) reach) c.marked_set.ensures chosen) in
     given_chooses (votes_rule votes w) (votes_keep rule) c.args.quorum reach c.args.choice.now c.give.new.choice
     set (votes_choice t 1 votes (marked n reach)) refl is (here, fit.1 ∙ sym rule.whole) c.give.result c.give.ensures
