@@ -5,7 +5,6 @@ ghost use Rattle.quorum.specs.Choosing.{Chooses};
 ghost use Rattle.quorum.specs.Sets.{Is, members};
 ghost use Rattle.quorum.specs.Voting.{NoVotesRule, Small};
 ghost use Rattle.quorum.specs.declared.fault.RuleFault.TheVariants.{VotesNotAllowed};
-ghost use Rattle.std.proofs.Common.{rules, arith};
 
 use super::copy_set::CopySet;
 use super::fault::RuleFault;
@@ -117,9 +116,11 @@ impl VotesRule {
 }
 
 impl Rule for VotesRule {
+    ghost use Rattle.quorum.specs.RuleLaws.{votes_keep};
+
     ghost meaning = { λ r. votes_rule (take r.count r.votes) r.threshold };
 
-    ghost lawful = { first_of (Prim.search rules, Prim.grind (arith, Self.row.coded.inj)) };
+    ghost lawful = { λ r. votes_keep r };
 
     fn copies(&self) -> u32 {
         self.count as u32

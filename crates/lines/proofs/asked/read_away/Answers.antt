@@ -2,8 +2,8 @@ use Rattle.std.proofs.Common.{◌≡◌, ◌<◌, length, vec_items, arith, rule
 use Rattle.lines.proofs.Away.{away_first, away_made, none_away}
 use Rattle.lines.proofs.asked.read_away.Goals as goal
 
-pub returns-in-default : goal.returns-in-default
-returns-in-default c = none_away c.args.words.now _ c.in-default.ensures.cases c.new.ensures.items
+pub returns-in_default : goal.returns-in_default
+returns-in_default c = none_away c.args.words.now _ c.in_default.ensures.cases c.new.ensures.items
 
 pub returns-then-is-empty : goal.returns-then-is-empty
 returns-then-is-empty c a h =

@@ -2,12 +2,12 @@ use Rattle.notation.specs.Meanings.{says}
 use Rattle.lines.proofs.Asking.{no_votes_no_rule, no_words_no_rule}
 use Rattle.lines.proofs.asked.read_rule.Goals as goal
 
-pub returns-in-default : goal.returns-in-default
-returns-in-default c = no_words_no_rule c.args.words.now c.in-default.ensures.cases
+pub returns-in_default : goal.returns-in_default
+returns-in_default c = no_words_no_rule c.args.words.now c.in_default.ensures.cases
 
-pub returns-in-default-2 : goal.returns-in-default-2
-returns-in-default-2 c =
-    no_votes_no_rule c.args.words.now _ _ c.in-Some.ensures.cases.0 c.in-votes.is (rw c.in-default-2.is at c.in-ok-threshold.ensures)
+pub returns-in_default-2 : goal.returns-in_default-2
+returns-in_default-2 c =
+    no_votes_no_rule c.args.words.now _ _ c.in-Some.ensures.cases.0 c.in-votes.is (rw c.in_default-2.is at c.in-ok-threshold.ensures)
 
 pub returns-in-Some-read-numbers : goal.returns-in-Some-read-numbers
 returns-in-Some-read-numbers c = says 2 _ _ _ _ _ c.in-Some.ensures.cases.0 c.in-tree.is c.in-Some-read-numbers.ensures

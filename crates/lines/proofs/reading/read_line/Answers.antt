@@ -4,12 +4,12 @@ use Rattle.lines.specs.Lines.{AsksRule, ChooseWords}
 use Rattle.lines.proofs.Heads.{behind, no_choice_no_line}
 use Rattle.lines.proofs.reading.read_line.Goals as goal
 
-pub returns-in-default : goal.returns-in-default
-returns-in-default g c = no_texts c.args.words.now c.in-default.ensures.cases
+pub returns-in_default : goal.returns-in_default
+returns-in_default g c = no_texts c.args.words.now c.in_default.ensures.cases
 
-pub returns-in-default-3 : goal.returns-in-default-3
-returns-in-default-3 g c =
-    no_choice_no_line g.V.Written.written c.args.words.now _ _ c.in-Some.ensures.cases.0 c.in-choose.is (rw c.in-default-3.is at c.in-ok-quorum.ensures)
+pub returns-in_default-3 : goal.returns-in_default-3
+returns-in_default-3 g c =
+    no_choice_no_line g.V.Written.written c.args.words.now _ _ c.in-Some.ensures.cases.0 c.in-choose.is (rw c.in_default-3.is at c.in-ok-quorum.ensures)
 
 pub returns-in-Some-2 : goal.returns-in-Some-2
 returns-in-Some-2 g c =

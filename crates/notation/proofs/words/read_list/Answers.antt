@@ -9,15 +9,15 @@ use Rattle.notation.proofs.words.read_list.Goals as goal
 pub loop-word-init : goal.loop-word-init
 loop-word-init c = subst (Wholes []) (sym c.new-numbers.ensures.items) tt
 
-pub returns-in-default : goal.returns-in-default
-returns-in-default c v h =
+pub returns-in_default : goal.returns-in_default
+returns-in_default c v h =
     let i = c.loop-word.word-index in
     let n = get_or (vec_items v) i 0 in
     let is = wholes_at _ (vec_items v) h i (omega (arith, wholes_length _ (vec_items v) h, length_texts c.args.words.now)) in
-    c.in-default.ensures n is.1 (to_ref (λ w. Whole w n) c.args.words.now i _ (omega arith) is.0)
+    c.in_default.ensures n is.1 (to_ref (λ w. Whole w n) c.args.words.now i _ (omega arith) is.0)
 
-pub returns-in-err-push : goal.returns-in-err-push
-returns-in-err-push c = IfOk-from_err c.from-residual.result _ c.from-residual.ensures.0
+pub returns-in_err-push : goal.returns-in_err-push
+returns-in_err-push c = IfOk-from_err c.from_residual.result _ c.from_residual.ensures.0
 
 pub loop-word-preserved : goal.loop-word-preserved
 loop-word-preserved c =

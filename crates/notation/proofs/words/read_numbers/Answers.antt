@@ -11,9 +11,9 @@ returns-then-words g c = λ ns h. omega (arith, h.0, wholes_length _ ns h.1, len
 pub loop-i-init : goal.loop-i-init
 loop-i-init g c = (simp length-replicate (omega arith), λ k lt. absurd (omega arith))
 
-pub returns-in-err-numbers : goal.returns-in-err-numbers
-returns-in-err-numbers g c =
-    rw c.from-residual.ensures (λ ns h.
+pub returns-in_err-numbers : goal.returns-in_err-numbers
+returns-in_err-numbers g c =
+    rw c.from_residual.ensures (λ ns h.
     let is = wholes_at _ ns h.1 c.loop-i.i (omega (arith, h.0)) in
     c.in-err-numbers.ensures (get_or ns c.loop-i.i 0) is.1 (to_ref (λ w. Whole w (get_or ns c.loop-i.i 0)) c.args.words.now c.loop-i.i _ (omega arith) is.0))
 

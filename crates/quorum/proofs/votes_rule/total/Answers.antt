@@ -11,7 +11,7 @@ loop-vote-preserved c =
     let g : c.loop-vote.sum + (get_or votes i 0 + votes_from (i + 1 + 1) (drop (i + 1) votes) everything) ≡ total votes =
     rw (drop_more votes i 0 c.loop-vote-test.true) at c.loop-vote.invariant.0
     in
-    let byte : get_or votes i 0 < 256 = (c.ok.votes i).fits in
+    let byte : get_or votes i 0 < 256 = (c.type_inv.votes i).fits in
     (omega (arith, g, c.from-sum.ensures), omega (arith, c.loop-vote.invariant.1, c.from-sum.ensures, byte))
 
 pub returns : goal.returns

@@ -7,7 +7,7 @@ returns-in-Some g c =
 
 pub loop-line-preserved : goal.loop-line-preserved
 loop-line-preserved g c =
-    kind_passed c.args.lines.now c.loop-line.line-index c.loop-line.invariant c.line-item.result c.loop-line-test.true c.line-item.is c.in-default.ensures
+    kind_passed c.args.lines.now c.loop-line.line-index c.loop-line.invariant c.line-item.result c.loop-line-test.true c.line-item.is c.in_default.ensures
 
 pub returns : goal.returns
 returns g c = kind_end c.args.lines.now c.loop-line.line-index c.loop-line.invariant c.loop-line-test.false

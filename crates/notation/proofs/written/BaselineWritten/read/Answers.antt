@@ -3,35 +3,35 @@ use Rattle.numbers.specs.Written.{Whole, Writes}
 use Rattle.notation.specs.Meanings.{from_ref, length_texts, to_ref}
 use Rattle.notation.proofs.written.BaselineWritten.read.Goals as goal
 
-pub returns-in-default : goal.returns-in-default
-returns-in-default c =
+pub returns-in_default : goal.returns-in_default
+returns-in_default c =
     let other : length c.args.words.now < 4 = search rules in
     λ a h. omega (arith, h.count, length_texts c.args.words.now)
 
-pub returns-in-default·2 : goal.returns-in-default·2
-returns-in-default·2 c =
+pub returns-in_default·2 : goal.returns-in_default·2
+returns-in_default·2 c =
     let other : 4 < length c.args.words.now = search rules in
     λ a h. omega (arith, h.count, length_texts c.args.words.now)
 
-pub returns-in-err-x : goal.returns-in-err-x
-returns-in-err-x c =
+pub returns-in_err-x : goal.returns-in_err-x
+returns-in_err-x c =
     let four : length c.args.words.now ≡ 4 = search rules in
-    rw c.from-residual.ensures (λ a h. c.in-err-x.ensures.reads h.x.0 h.x_is.1 (to_ref (λ w. Writes w h.x.0) c.args.words.now 0 _ (omega arith) h.x_is.0))
+    rw c.from_residual.ensures (λ a h. c.in-err-x.ensures.reads h.x.0 h.x_is.1 (to_ref (λ w. Writes w h.x.0) c.args.words.now 0 _ (omega arith) h.x_is.0))
 
-pub returns-in-err-y : goal.returns-in-err-y
-returns-in-err-y c =
+pub returns-in_err-y : goal.returns-in_err-y
+returns-in_err-y c =
     let four : length c.args.words.now ≡ 4 = search rules in
-    rw c.from-residual-in-err-y.ensures (λ a h. c.in-err-y.ensures.reads h.y.0 h.y_is.1 (to_ref (λ w. Writes w h.y.0) c.args.words.now 1 _ (omega arith) h.y_is.0))
+    rw c.from_residual-in_err-y.ensures (λ a h. c.in-err-y.ensures.reads h.y.0 h.y_is.1 (to_ref (λ w. Writes w h.y.0) c.args.words.now 1 _ (omega arith) h.y_is.0))
 
-pub returns-in-err-z : goal.returns-in-err-z
-returns-in-err-z c =
+pub returns-in_err-z : goal.returns-in_err-z
+returns-in_err-z c =
     let four : length c.args.words.now ≡ 4 = search rules in
-    rw c.from-residual-in-err-z.ensures (λ a h. c.in-err-z.ensures.reads h.z.0 h.z_is.1 (to_ref (λ w. Writes w h.z.0) c.args.words.now 2 _ (omega arith) h.z_is.0))
+    rw c.from_residual-in_err-z.ensures (λ a h. c.in-err-z.ensures.reads h.z.0 h.z_is.1 (to_ref (λ w. Writes w h.z.0) c.args.words.now 2 _ (omega arith) h.z_is.0))
 
-pub returns-in-err-day : goal.returns-in-err-day
-returns-in-err-day c =
+pub returns-in_err-day : goal.returns-in_err-day
+returns-in_err-day c =
     let four : length c.args.words.now ≡ 4 = search rules in
-    rw c.from-residual-in-err-day.ensures (λ a h. c.in-err-day.ensures h.day h.day_is.1 (to_ref (λ w. Whole w h.day) c.args.words.now 3 _ (omega arith) h.day_is.0))
+    rw c.from_residual-in_err-day.ensures (λ a h. c.in-err-day.ensures h.day h.day_is.1 (to_ref (λ w. Whole w h.day) c.args.words.now 3 _ (omega arith) h.day_is.0))
 
 pub returns : goal.returns
 returns c =

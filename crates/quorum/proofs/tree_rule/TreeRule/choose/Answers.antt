@@ -13,7 +13,7 @@ returns c =
     let h = tree.height in
     let n = copies_of d h in
     let reach = c.args.reach.now in
-    let fit = c.in-ok-check-lengths.ensures in
+    let fit = c.in_ok-check_lengths.ensures in
     let here : length reach ≡ n = fit.0 ∙ c.copies.ensures.0 in
     let chosen : Is c.choose_for_copy-set.result (choice c.args.quorum d h (members c.marked_set.result) 1) =
     subst (λ b. Is c.choose_for_copy-set.result (choice c.args.quorum (b / 2) h (members c.marked_set.result) 1)) c.degree.ensures
