@@ -18,7 +18,7 @@ pub loop-number-preserved : goal.loop-number-preserved
 loop-number-preserved g c plain =
     let old = c.loop-number.invariant plain in
     put_is g.W.Write.write_str_gives c.args.f.now _ _ c.write.new.self (spaced_more c.args.numbers.now c.loop-number.number-index c.loop-number-test.true)
-    (put-more g.W.Write.write_str_gives c.args.f.now _ c.loop-number.f _ c.write.new.self old (c.in-ok-write.ensures.shows old.plain refl))
+    (put-more g.W.Write.write_str_gives c.args.f.now _ c.loop-number.f _ c.write.new.self old (c.in_ok-write.ensures.shows old.plain refl))
 
 pub returns : goal.returns
 returns g c plain ok =

@@ -20,4 +20,4 @@ returns-in-Ok g c =
     let all : no_copy m.n c.args.away.now ≡ None = ap (λ k. no_copy k c.args.away.now) (sym c.copies-n.ensures) ∙ p.0 in
     let e : take (n - 0) c.in-Ok.reach ≡ reach_without m.n c.args.away.now =
     ap (λ k. take k c.in-Ok.reach) (sub-zero n) ∙ p.1 ∙ ap (λ k. reach_without k c.args.away.now) c.copies-n.ensures in
-    chosen m c.args.quorum c.args.away.now _ c.choose-numbers.result all e c.choose-numbers.ensures
+    chosen m c.args.quorum c.args.away.now _ c.choose_numbers.result all e c.choose_numbers.ensures

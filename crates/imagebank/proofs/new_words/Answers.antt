@@ -25,7 +25,7 @@ loop-place-preserved c =
     let b = new_bank z.kind c.args.first.now.plain.payloads z.stations z.entries in
     let k = c.loop-place.place in
     let next = c.new-word.ensures ∙ ap (λ r. image_word (new_bank z.kind r.payloads z.stations z.entries) k) c.get-record.ensures in
-    c.in-ok-push.ensures.items
+    c.in_ok-push.ensures.items
     ∙ ap (λ l. l ++ (c.new-word.result ∷ [])) c.loop-place.invariant
     ∙ ap (λ w. map (image_word b) (range_with_len 0 k) ++ (w ∷ [])) next
     ∙ sym (map-range_with_len_more (image_word b) 0 k k (omega arith))

@@ -8,5 +8,5 @@ pub returns : goal.returns
 returns c =
     let ws = c.args.words.now in
     let headed : Headed ws = search rules in
-    let told = c.check-places.ensures ∙ ap (λ o. answered o tt) (sym (rest_decides ws headed)) in
+    let told = c.check_places.ensures ∙ ap (λ o. answered o tt) (sym (rest_decides ws headed)) in
     record { told = told; image = λ e. image_of_told ws (clear_answer _ (sym told ∙ e)) }

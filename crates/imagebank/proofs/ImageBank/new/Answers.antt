@@ -17,9 +17,9 @@ invariant-of-result-2 g c =
     let b = new_bank c.kind-number.result k.plain.payloads n m in
     let ok : allowed c.kind-number.result n m ≡ true = search rules in
     let fits : within (first_record k.plain.payloads) ≡ true = ap (λ r. within (first_record r.payloads)) c.first-first.ensures ∙ ap within (sym c.first-first.ensures) ∙ k.fits in
-    let words = c.in-ok-words.words in
-    let long : length (vec_items words) ≡ size n m = ap length c.in-ok-words.ensures ∙ length_image b ok in (
-      whole_if (vec_items words) (ap check_fault c.in-ok-words.ensures ∙ image_passes b (plain_new c.kind-number.result k.plain.payloads n m ok fits)),
+    let words = c.in_ok-words.words in
+    let long : length (vec_items words) ≡ size n m = ap length c.in_ok-words.ensures ∙ length_image b ok in (
+      whole_if (vec_items words) (ap check_fault c.in_ok-words.ensures ∙ image_passes b (plain_new c.kind-number.result k.plain.payloads n m ok fits)),
       (sym (ap not (ne_eqb words.len 0 (λ e. omega (arith, long, words.ok.0, e)))), tt),
     )
 
@@ -33,6 +33,6 @@ returns g c =
     let blank = g.row.V-Value.coded g.row.V-Value.empty in
     let payloads : k.plain.payloads ≡ blank = ap (λ r. r.payloads) c.first-first.ensures ∙ ap g.row.V-Value.coded c.blank.ensures in
     is_new g.row.V-Value.kind blank n m _ _ (ap (λ x. allowed x n m) (sym c.kind-number.ensures) ∙ ok)
-    (ap imaged c.in-ok-words.ensures ∙ given_back b (plain_new c.kind-number.result k.plain.payloads n m ok fits)
+    (ap imaged c.in_ok-words.ensures ∙ given_back b (plain_new c.kind-number.result k.plain.payloads n m ok fits)
     ∙ ap (λ x. new_bank x k.plain.payloads n m) c.kind-number.ensures ∙ ap (λ p. new_bank g.row.V-Value.kind p n m) payloads)
     refl

@@ -9,7 +9,7 @@ told-record-requires c =
     let b = c.args.self.now in
     let ws = vec_items b.words in
     let s = c.args.station in let e = c.args.entry in
-    let here = there (imaged ws) s e c.in-ok-check-call.ensures in
+    let here = there (imaged ws) s e c.in_ok-check-call.ensures in
     let at : c.place-of-record-place.result ≡ record_place (imaged ws).m s e = c.place-of-record-place.ensures ∙ ap (λ z. record_place z.entries s e) c.sizes-here.ensures in
     omega (arith, at, record_in ws b.sound s here.0 e 4 here.1 (omega arith), ap length c.as-slice.ensures.value)
 
@@ -18,7 +18,7 @@ returns c =
     let b = c.args.self.now in
     let ws = vec_items b.words in
     let s = c.args.station in let e = c.args.entry in
-    let ok = c.in-ok-check-call.ensures in
+    let ok = c.in_ok-check-call.ensures in
     let here = there (imaged ws) s e ok in
     let at : c.place-of-record-place.result ≡ record_place (imaged ws).m s e = c.place-of-record-place.ensures ∙ ap (λ z. record_place z.entries s e) c.sizes-here.ensures in
     fetch_done (imaged ws) s e c.told-record.result

@@ -12,7 +12,7 @@ index-mut-requires c =
     let b = c.args.self.now in
     let ws = vec_items b.words in
     let s = c.args.station in
-    let here : between 1 (imaged ws).n s ≡ true = ap (λ z. between 1 z.stations s) (sym c.sizes-here.ensures) ∙ is_station_there c.sizes-here.result.stations s c.in-ok-check-station.ensures in
+    let here : between 1 (imaged ws).n s ≡ true = ap (λ z. between 1 z.stations s) (sym c.sizes-here.ensures) ∙ is_station_there c.sizes-here.result.stations s c.in_ok-check-station.ensures in
     let at : c.place-of-station-place.result ≡ station_place (imaged ws).m s = c.place-of-station-place.ensures ∙ ap (λ z. station_place z.entries s) c.sizes-here-2.ensures in
     omega (arith, at, station_in ws b.sound s here, b.words.ok.0)
 
@@ -21,7 +21,7 @@ invariant-of-self c =
     let b = c.args.self.now in
     let ws = vec_items b.words in
     let s = c.args.station in
-    let here : between 1 (imaged ws).n s ≡ true = ap (λ z. between 1 z.stations s) (sym c.sizes-here.ensures) ∙ is_station_there c.sizes-here.result.stations s c.in-ok-check-station.ensures in
+    let here : between 1 (imaged ws).n s ≡ true = ap (λ z. between 1 z.stations s) (sym c.sizes-here.ensures) ∙ is_station_there c.sizes-here.result.stations s c.in_ok-check-station.ensures in
     let at : c.place-of-station-place.result ≡ station_place (imaged ws).m s = c.place-of-station-place.ensures ∙ ap (λ z. station_place z.entries s) c.sizes-here-2.ensures in
     (ap (λ k. whole (set ws k c.station-word.result)) at ∙ ap (λ w. whole (set ws (station_place (imaged ws).m s) w)) c.station-word.ensures ∙ (after_reach ws b.sound s here c.args.reach).0, (b.told, tt))
 
@@ -30,7 +30,7 @@ returns c =
     let b = c.args.self.now in
     let ws = vec_items b.words in
     let s = c.args.station in
-    let here : between 1 (imaged ws).n s ≡ true = ap (λ z. between 1 z.stations s) (sym c.sizes-here.ensures) ∙ is_station_there c.sizes-here.result.stations s c.in-ok-check-station.ensures in
+    let here : between 1 (imaged ws).n s ≡ true = ap (λ z. between 1 z.stations s) (sym c.sizes-here.ensures) ∙ is_station_there c.sizes-here.result.stations s c.in_ok-check-station.ensures in
     let at : c.place-of-station-place.result ≡ station_place (imaged ws).m s = c.place-of-station-place.ensures ∙ ap (λ z. station_place z.entries s) c.sizes-here-2.ensures in
     let done = reach_done (imaged ws) s c.args.reach here (unshut (imaged ws) (plain ws b.sound s here) s) in
     record {

@@ -11,9 +11,9 @@ use Rattle.imagebank.specs.Whole.{whole}
 use Rattle.imagebank.proofs.ImageBankBank.store.Goals as goal
 use Rattle.imagebank.specs.Wholes.{after_store, plain, record_in}
 
-pub returns-in-err-check-call : goal.returns-in-err-check-call
-returns-in-err-check-call c =
-    let no = store_refused (imaged (vec_items c.args.self.now.words)) c.args.station c.args.entry c.args.kept c.in-err-check-call.field-0.0 c.in-err-check-call.ensures in
+pub returns-in_err-check-call : goal.returns-in_err-check-call
+returns-in_err-check-call c =
+    let no = store_refused (imaged (vec_items c.args.self.now.words)) c.args.station c.args.entry c.args.kept c.in_err-check-call.field-0.0 c.in_err-check-call.ensures in
     let told = err_from_is_err_and c.from-residual.result c.from-residual.ensures.1 in
     record { answer = told.1 ∙ ap Err told.2 ∙ no.0; after = no.1 }
 
@@ -22,7 +22,7 @@ put-record-requires c =
     let b = c.args.self.now in
     let ws = vec_items b.words in
     let s = c.args.station in let e = c.args.entry in
-    let here = there (imaged ws) s e c.in-ok-check-call.ensures in
+    let here = there (imaged ws) s e c.in_ok-check-call.ensures in
     let at : c.place-of-record-place.result ≡ record_place (imaged ws).m s e = c.place-of-record-place.ensures ∙ ap (λ z. record_place z.entries s e) c.sizes-here.ensures in
     let few = (small (imaged ws) (plain ws b.sound s here.0)).2 in (
       omega (arith, at, record_in ws b.sound s here.0 e 4 here.1 (omega arith), ap length c.as-mut-slice.ensures.value),
@@ -34,7 +34,7 @@ invariant-of-self c =
     let b = c.args.self.now in
     let ws = vec_items b.words in
     let s = c.args.station in let e = c.args.entry in let r = c.args.kept in
-    let here = there (imaged ws) s e c.in-ok-check-call.ensures in
+    let here = there (imaged ws) s e c.in_ok-check-call.ensures in
     let at : c.place-of-record-place.result ≡ record_place (imaged ws).m s e = c.place-of-record-place.ensures ∙ ap (λ z. record_place z.entries s e) c.sizes-here.ensures in
     let put : c.put-record.new.words ≡ five ws (record_place (imaged ws).m s e) (record_word e r) =
     c.put-record.ensures ∙ ap (λ l. five l c.place-of-record-place.result (record_word e r)) c.as-mut-slice.ensures.value ∙ ap (λ k. five ws k (record_word e r)) at in
@@ -47,7 +47,7 @@ returns c =
     let b = c.args.self.now in
     let ws = vec_items b.words in
     let s = c.args.station in let e = c.args.entry in let r = c.args.kept in
-    let ok = c.in-ok-check-call.ensures in
+    let ok = c.in_ok-check-call.ensures in
     let here = there (imaged ws) s e ok in
     let fits : within r ≡ true = sym c.if-not-in-limits.ensures in
     let at : c.place-of-record-place.result ≡ record_place (imaged ws).m s e = c.place-of-record-place.ensures ∙ ap (λ z. record_place z.entries s e) c.sizes-here.ensures in

@@ -21,7 +21,7 @@ returns-in_err-push c = IfOk-from_err c.from_residual.result _ c.from_residual.e
 
 pub loop-word-preserved : goal.loop-word-preserved
 loop-word-preserved c =
-    wholes_more c.args.words.now c.loop-word.word-index _ _ _ c.in-Some.number c.loop-word-test.true c.loop-word.invariant (c.in-Some.ensures, search rules) c.in-ok-push.ensures.items
+    wholes_more c.args.words.now c.loop-word.word-index _ _ _ c.in-Some.number c.loop-word-test.true c.loop-word.invariant (c.in-Some.ensures, search rules) c.in_ok-push.ensures.items
 
 pub returns : goal.returns
 returns c = subst (λ ws. Wholes (texts ws) (vec_items c.loop-word.numbers)) (take_all c.loop-word.word-index c.args.words.now c.loop-word-test.false) c.loop-word.invariant

@@ -15,15 +15,15 @@ pub returns-in_err-numbers : goal.returns-in_err-numbers
 returns-in_err-numbers g c =
     rw c.from_residual.ensures (λ ns h.
     let is = wholes_at _ ns h.1 c.loop-i.i (omega (arith, h.0)) in
-    c.in-err-numbers.ensures (get_or ns c.loop-i.i 0) is.1 (to_ref (λ w. Whole w (get_or ns c.loop-i.i 0)) c.args.words.now c.loop-i.i _ (omega arith) is.0))
+    c.in_err-numbers.ensures (get_or ns c.loop-i.i 0) is.1 (to_ref (λ w. Whole w (get_or ns c.loop-i.i 0)) c.args.words.now c.loop-i.i _ (omega arith) is.0))
 
 pub loop-i-preserved : goal.loop-i-preserved
 loop-i-preserved g c =
     let i = c.loop-i.i in
-    let n = c.in-ok-numbers.field-0 in
+    let n = c.in_ok-numbers.field-0 in
     let lt : i < length c.loop-i.numbers = omega (arith, c.loop-i.invariant.0) in
     let here : IsWhole (word i (texts c.args.words.now)) n =
-    (from_ref (λ w. Whole w n) c.args.words.now i _ (omega arith) c.in-ok-numbers.ensures, search rules) in (
+    (from_ref (λ w. Whole w n) c.args.words.now i _ (omega arith) c.in_ok-numbers.ensures, search rules) in (
       simp length-set (omega (arith, c.loop-i.invariant.0)),
       below_more _ _
           (λ k h. let ne : k ≢ i = omega arith in rw get_or-set_other (c.loop-i.invariant.1 k h))

@@ -12,6 +12,6 @@ returns g c =
     let places = vec_items p.places in
     let b = g.B.Bank.meaning p.inner in
     let s = c.args.station in
-    let found = station_found (placing places b).n s (place_of places s) c.in-ok-below.below c.in-ok-below.ensures in
+    let found = station_found (placing places b).n s (place_of places s) c.in_ok-below.below c.in_ok-below.ensures in
     let e = c.args.entry in
     c.tell.ensures ∙ ap (retold_answer s) (c.fetch.ensures ∙ ap (λ t. fetched b t e) found.1) ∙ fetched_here places b s found.0 e

@@ -7,13 +7,13 @@ use Rattle.placement.specs.Placing.{placing, retold_answer}
 use Rattle.placement.proofs.PlacementBank.store.Goals as goal
 use Rattle.placement.specs.Placings.{stored_here}
 
-pub returns-in-err-below : goal.returns-in-err-below
-returns-in-err-below g c =
+pub returns-in_err-below : goal.returns-in_err-below
+returns-in_err-below g c =
     let p = c.args.self.now in
     let places = vec_items p.places in
     let b = g.B.Bank.meaning p.inner in
     let s = c.args.station in
-    let no = store_nowhere (placing places b) s (place_of places s) c.in-err-below.field-0.0 c.in-err-below.ensures c.args.entry c.args.kept in
+    let no = store_nowhere (placing places b) s (place_of places s) c.in_err-below.field-0.0 c.in_err-below.ensures c.args.entry c.args.kept in
     let told = err_from_is_err_and c.from-residual.result c.from-residual.ensures.1 in
     record { answer = told.1 ∙ ap Err told.2 ∙ no.0; after = no.1 }
 
@@ -23,7 +23,7 @@ returns g c =
     let places = vec_items p.places in
     let b = g.B.Bank.meaning p.inner in
     let s = c.args.station in
-    let found = station_found (placing places b).n s (place_of places s) c.in-ok-below.below c.in-ok-below.ensures in
+    let found = station_found (placing places b).n s (place_of places s) c.in_ok-below.below c.in_ok-below.ensures in
     let e = c.args.entry in
     let r = c.args.kept in
     let done = stored_here places b s found.0 e r in

@@ -4,10 +4,10 @@ use Rattle.std.proofs.lemmas.Result.{IfOk-from_err}
 use Rattle.rulescript.specs.Order.{fault_at, told_as}
 use Rattle.rulescript.proofs.Ordering.{bad_end, bad_more}
 use Rattle.rulescript.proofs.order.bad_lines.Goals as goal
-use Rattle.rulescript.proofs.order.bad_lines.Goals.{in-Some+in-ok-push, in_default}
+use Rattle.rulescript.proofs.order.bad_lines.Goals.{in-Some+in_ok-push, in_default}
 
-pub returns-in-err-push : goal.returns-in-err-push
-returns-in-err-push g c = IfOk-from_err c.from-residual.result _ c.from-residual.ensures.0
+pub returns-in_err-push : goal.returns-in_err-push
+returns-in_err-push g c = IfOk-from_err c.from-residual.result _ c.from-residual.ensures.0
 
 pub loop-i-preserved : goal.loop-i-preserved
 loop-i-preserved g c =
@@ -17,7 +17,7 @@ loop-i-preserved g c =
     (c.fault-at.ensures ∙ ap (λ n. fault_at (take n c.args.lines.now) c.index-lines-i.result) (sub-zero i)) in
     let same : vec_items c.match-fault-at.bad ≡ old ++ told_as (i + 1) c.fault-at.result =
     elim c.match-fault-at.branch [
-      | in-Some+in-ok-push w ↦ ap vec_items w.bad-is ∙ w.in-ok-push.ensures.items ∙ ap (λ f. old ++ told_as (i + 1) f) (sym w.in-Some.is)
+      | in-Some+in_ok-push w ↦ ap vec_items w.bad-is ∙ w.in_ok-push.ensures.items ∙ ap (λ f. old ++ told_as (i + 1) f) (sym w.in-Some.is)
       | in_default w ↦ ap vec_items w.bad-is ∙ sym (append-nil old) ∙ ap (λ f. old ++ told_as (i + 1) f) (sym w.in_default.is)
     ] in
     rw same more

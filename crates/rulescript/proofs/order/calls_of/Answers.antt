@@ -8,7 +8,7 @@ pub loop-line-preserved-in-Continue· : goal.loop-line-preserved-in-Continue·
 loop-line-preserved-in-Continue· g c =
     let more = calls_more (into_iter_items c.into-iter-line-iterator.result) (into_iter_items c.loop-line.line-iterator) (vec_items c.loop-line.calls) c.loop-line.invariant
     c.in-Some.line (into_iter_items c.next.new.self) c.in-Some.ensures.steps.0 (Some c.in-Some-call-in.call) c.in-Some-call-in.ensures in
-    rw c.in-ok-push.ensures.items more
+    rw c.in_ok-push.ensures.items more
 
 pub returns : goal.returns
 returns g c =

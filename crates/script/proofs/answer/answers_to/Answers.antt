@@ -7,7 +7,7 @@ pub loop-call-preserved : goal.loop-call-preserved
 loop-call-preserved g c =
     let f = answered g.row.V-Value.coded in
     let front = map f (take c.loop-call.call-index c.args.calls.now) in
-    c.in-ok-push.ensures.items
+    c.in_ok-push.ensures.items
     ∙ ap (λ l. l ++ (c.answer-to.result ∷ [])) c.loop-call.invariant
     ∙ ap (λ a. front ++ (a ∷ [])) (c.answer-to.ensures ∙ ap f c.call-item.is)
     ∙ sym (map_more f c.args.calls.now c.loop-call.call-index c.call-item.result c.loop-call-test.true)
