@@ -30,9 +30,9 @@ returns g c =
     let b = new_bank c.kind-number.result k.plain.payloads n m in
     let ok : allowed c.kind-number.result n m ≡ true = search rules in
     let fits : within (first_record k.plain.payloads) ≡ true = ap (λ r. within (first_record r.payloads)) c.first-first.ensures ∙ ap within (sym c.first-first.ensures) ∙ k.fits in
-    let blank = g.row.V-Value.coded g.row.V-Value.empty in
-    let payloads : k.plain.payloads ≡ blank = ap (λ r. r.payloads) c.first-first.ensures ∙ ap g.row.V-Value.coded c.blank.ensures in
-    is_new g.row.V-Value.kind blank n m _ _ (ap (λ x. allowed x n m) (sym c.kind-number.ensures) ∙ ok)
+    let blank = g.V.Value.coded g.V.Value.empty in
+    let payloads : k.plain.payloads ≡ blank = ap (λ r. r.payloads) c.first-first.ensures ∙ ap g.V.Value.coded c.blank.ensures in
+    is_new g.V.Value.kind blank n m _ _ (ap (λ x. allowed x n m) (sym c.kind-number.ensures) ∙ ok)
     (ap imaged c.in_ok-words.ensures ∙ given_back b (plain_new c.kind-number.result k.plain.payloads n m ok fits)
-    ∙ ap (λ x. new_bank x k.plain.payloads n m) c.kind-number.ensures ∙ ap (λ p. new_bank g.row.V-Value.kind p n m) payloads)
+    ∙ ap (λ x. new_bank x k.plain.payloads n m) c.kind-number.ensures ∙ ap (λ p. new_bank g.V.Value.kind p n m) payloads)
     refl

@@ -5,8 +5,8 @@ use Rattle.lines.proofs.asked.read_away.Goals as goal
 pub returns-in_default : goal.returns-in_default
 returns-in_default c = none_away c.args.words.now _ c.in_default.ensures.cases c.new.ensures.items
 
-pub returns-then-is-empty : goal.returns-then-is-empty
-returns-then-is-empty c a h =
+pub returns-then-is_empty : goal.returns-then-is_empty
+returns-then-is_empty c a h =
     let p = away_first c.args.words.now _ _ c.in-Some.ensures.cases.0 (vec_items a) h in
     let none : length c.in-Some.rest.now ≡ 0 = search rules in
     omega (arith, p.2)
@@ -14,4 +14,4 @@ returns-then-is-empty c a h =
 pub returns-in-away : goal.returns-in-away
 returns-in-away c =
     let some : 0 < length c.in-Some.rest.now = search rules in
-    away_made c.args.words.now _ _ c.in-Some.ensures.cases.0 c.in-away.is some c.read-list.result c.read-list.ensures
+    away_made c.args.words.now _ _ c.in-Some.ensures.cases.0 c.in-away.is some c.read_list.result c.read_list.ensures

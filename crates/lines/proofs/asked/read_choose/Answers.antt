@@ -14,4 +14,4 @@ returns-in_default-2 c a h =
 pub returns : goal.returns
 returns c =
     let there = rw c.in-Some-2.is at c.in_ok-away.ensures in
-    choose_from c.args.words.now _ _ c.in-Some.ensures.cases.0 _ _ c.in-Some-read-quorum.ensures there
+    choose_from c.args.words.now _ _ c.in-Some.ensures.cases.0 _ _ c.in-Some-read_quorum.ensures there

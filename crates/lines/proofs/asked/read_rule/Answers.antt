@@ -7,10 +7,10 @@ returns-in_default c = no_words_no_rule c.args.words.now c.in_default.ensures.ca
 
 pub returns-in_default-2 : goal.returns-in_default-2
 returns-in_default-2 c =
-    no_votes_no_rule c.args.words.now _ _ c.in-Some.ensures.cases.0 c.in-votes.is (rw c.in_default-2.is at c.in_ok-threshold.ensures)
+    no_votes_no_rule c.args.words.now _ _ c.in-Some.ensures.cases.0 c.in-votes.is (rw c.in_default-2.is at c.in_ok-threshold-in-votes.ensures)
 
-pub returns-in-Some-read-numbers : goal.returns-in-Some-read-numbers
-returns-in-Some-read-numbers c = says 2 _ _ _ _ _ c.in-Some.ensures.cases.0 c.in-tree.is c.in-Some-read-numbers.ensures
+pub returns-in-Some-read_numbers : goal.returns-in-Some-read_numbers
+returns-in-Some-read_numbers c = says 2 _ _ _ _ _ c.in-Some.ensures.cases.0 c.in-tree.is c.in-Some-read_numbers.ensures
 
-pub returns-in-Some-read-numbers-2 : goal.returns-in-Some-read-numbers-2
-returns-in-Some-read-numbers-2 c = says 2 _ _ _ _ _ c.in-Some.ensures.cases.0 c.in-levels.is c.in-Some-read-numbers-2.ensures
+pub returns-in-Some-read_numbers-2 : goal.returns-in-Some-read_numbers-2
+returns-in-Some-read_numbers-2 c = says 2 _ _ _ _ _ c.in-Some.ensures.cases.0 c.in-levels.is c.in-Some-read_numbers-2.ensures

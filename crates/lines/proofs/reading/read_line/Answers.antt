@@ -9,12 +9,12 @@ returns-in_default g c = no_texts c.args.words.now c.in_default.ensures.cases
 
 pub returns-in_default-3 : goal.returns-in_default-3
 returns-in_default-3 g c =
-    no_choice_no_line g.V.Written.written c.args.words.now _ _ c.in-Some.ensures.cases.0 c.in-choose.is (rw c.in_default-3.is at c.in_ok-quorum.ensures)
+    no_choice_no_line g.V.Written.written c.args.words.now _ _ c.in-Some.ensures.cases.0 c.in-choose.is (rw c.in_default-3.is at c.in_ok-quorum-in-choose.ensures)
 
 pub returns-in-Some-2 : goal.returns-in-Some-2
 returns-in-Some-2 g c =
-    behind c.args.words.now _ _ _ c.in-Some.ensures.cases.0 c.in-rule.is (λ ws. AsksRule ws c.in-Some-2.form) (rw c.in-Some-2.is at c.in_ok-form.ensures)
+    behind c.args.words.now _ _ _ c.in-Some.ensures.cases.0 c.in-rule.is (λ ws. AsksRule ws c.in-Some-2.form) (rw c.in-Some-2.is at c.in_ok-form-in-rule.ensures)
 
 pub returns-in-Some-3 : goal.returns-in-Some-3
 returns-in-Some-3 g c =
-    behind c.args.words.now _ _ _ c.in-Some.ensures.cases.0 c.in-choose.is (λ ws. ChooseWords ws c.in-Some-3.quorum (vec_items c.in-Some-3.away)) (rw c.in-Some-3.is at c.in_ok-quorum.ensures)
+    behind c.args.words.now _ _ _ c.in-Some.ensures.cases.0 c.in-choose.is (λ ws. ChooseWords ws c.in-Some-3.quorum (vec_items c.in-Some-3.away)) (rw c.in-Some-3.is at c.in_ok-quorum-in-choose.ensures)

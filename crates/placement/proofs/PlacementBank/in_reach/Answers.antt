@@ -13,4 +13,4 @@ returns g c =
     let b = g.B.Bank.meaning p.inner in
     let s = c.args.station in
     let found = station_found (placing places b).n s (place_of places s) c.in_ok-below.below c.in_ok-below.ensures in
-    c.tell.ensures ∙ ap (retold_answer s) (c.in-reach.ensures ∙ ap (asked_reach b) found.1) ∙ asked_here places b s found.0
+    c.tell.ensures ∙ ap (retold_answer s) (c.in_reach.ensures ∙ ap (asked_reach b) found.1) ∙ asked_here places b s found.0

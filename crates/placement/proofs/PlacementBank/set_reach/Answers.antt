@@ -14,7 +14,7 @@ returns-in_err-below g c =
     let b = g.B.Bank.meaning p.inner in
     let s = c.args.station in
     let no = reach_nowhere (placing places b) s (place_of places s) c.in_err-below.field-0.0 c.in_err-below.ensures c.args.reach in
-    let told = err_from_is_err_and c.from-residual.result c.from-residual.ensures.1 in
+    let told = err_from_is_err_and c.from_residual.result c.from_residual.ensures.1 in
     record { answer = told.1 ∙ ap Err told.2 ∙ no.0; after = no.1 }
 
 pub returns : goal.returns
@@ -27,6 +27,6 @@ returns g c =
     let v = c.args.reach in
     let done = reached_here places b s found.0 v in
     record {
-      answer = c.tell.ensures ∙ ap (retold_answer s) (c.set-reach.ensures.answer ∙ ap (reach_answer b) found.1) ∙ done.0;
-      after = ap (placing places) (c.set-reach.ensures.after ∙ ap (λ t. reach_set b t v) found.1) ∙ done.1;
+      answer = c.tell.ensures ∙ ap (retold_answer s) (c.set_reach.ensures.answer ∙ ap (reach_answer b) found.1) ∙ done.0;
+      after = ap (placing places) (c.set_reach.ensures.after ∙ ap (λ t. reach_set b t v) found.1) ∙ done.1;
     }

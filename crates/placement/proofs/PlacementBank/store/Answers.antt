@@ -14,7 +14,7 @@ returns-in_err-below g c =
     let b = g.B.Bank.meaning p.inner in
     let s = c.args.station in
     let no = store_nowhere (placing places b) s (place_of places s) c.in_err-below.field-0.0 c.in_err-below.ensures c.args.entry c.args.kept in
-    let told = err_from_is_err_and c.from-residual.result c.from-residual.ensures.1 in
+    let told = err_from_is_err_and c.from_residual.result c.from_residual.ensures.1 in
     record { answer = told.1 ∙ ap Err told.2 ∙ no.0; after = no.1 }
 
 pub returns : goal.returns
