@@ -9,7 +9,7 @@ pub loop-call-preserved : goal.loop-call-preserved
 loop-call-preserved g c =
     let R = Answers (g.R.Rule.meaning c.args.rule.now) g.V.Value.coded in
     paired_more R c.args.calls.now c.loop-call.call-index c.call-item.result (vec_items c.loop-call.answers) _ _ c.loop-call-test.true c.loop-call.invariant
-    (subst (λ x. R x c.in_ok-answer-to.field-0) c.call-item.is c.in_ok-answer-to.ensures) c.in_ok-push.ensures.items
+    (subst (λ x. R x c.in_ok-answer_to.field-0) c.call-item.is c.in_ok-answer_to.ensures) c.in_ok-push.ensures.items
 
 pub returns : goal.returns
 returns g c =

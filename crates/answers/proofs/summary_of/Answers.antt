@@ -3,24 +3,24 @@ use Rattle.std.proofs.lemmas.List.{take_all}
 use Rattle.answers.specs.Answers.{accepted, count}
 use Rattle.answers.proofs.Counting.{count_failed, count_few, count_not, count_passed}
 use Rattle.answers.proofs.summary_of.Goals as goal
-use Rattle.answers.proofs.summary_of.Goals.{else-is-accepted, then-is-accepted}
+use Rattle.answers.proofs.summary_of.Goals.{else-is_accepted, then-is_accepted}
 
-pub overflow-add-accepted : goal.overflow-add-accepted
-overflow-add-accepted c =
+pub overflow_add-accepted : goal.overflow_add-accepted
+overflow_add-accepted c =
     omega (arith, count_few accepted (take c.loop-answer.answer-index c.args.answers.now), length-take c.loop-answer.answer-index c.args.answers.now)
 
 pub loop-answer-preserved : goal.loop-answer-preserved
 loop-answer-preserved c =
-    elim c.if-is-accepted.branch [
-      | then-is-accepted w ↦ count_passed accepted c.args.answers.now c.loop-answer.answer-index c.answer-item.result c.loop-answer-test.true _ _ c.loop-answer.invariant (w.if-is-accepted.ensures ∙ ap accepted c.answer-item.is) w.accepted_is
-      | else-is-accepted w ↦ count_failed accepted c.args.answers.now c.loop-answer.answer-index c.answer-item.result c.loop-answer-test.true _ _ c.loop-answer.invariant (w.if-is-accepted.ensures ∙ ap accepted c.answer-item.is) w.accepted_is
+    elim c.if-is_accepted.branch [
+      | then-is_accepted w ↦ count_passed accepted c.args.answers.now c.loop-answer.answer-index c.answer-item.result c.loop-answer-test.true _ _ c.loop-answer.invariant (w.if-is_accepted.ensures ∙ ap accepted c.answer-item.is) w.accepted-is
+      | else-is_accepted w ↦ count_failed accepted c.args.answers.now c.loop-answer.answer-index c.answer-item.result c.loop-answer-test.true _ _ c.loop-answer.invariant (w.if-is_accepted.ensures ∙ ap accepted c.answer-item.is) w.accepted-is
     ]
 
 whole : (c : goal.After-loop-answer) → c.loop-answer.accepted ≡ count accepted c.args.answers.now
 whole c = c.loop-answer.invariant ∙ ap (count accepted) (take_all c.loop-answer.answer-index c.args.answers.now c.loop-answer-test.false)
 
-pub overflow-sub-result : goal.overflow-sub-result
-overflow-sub-result c = omega (arith, whole c, count_few accepted c.args.answers.now)
+pub overflow_sub-result : goal.overflow_sub-result
+overflow_sub-result c = omega (arith, whole c, count_few accepted c.args.answers.now)
 
 pub returns : goal.returns
 returns c = record { calls_is = omega arith; accepted_is = whole c; refused_is = omega (arith, whole c, count_not accepted c.args.answers.now) }

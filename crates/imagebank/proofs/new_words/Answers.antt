@@ -8,8 +8,8 @@ use Rattle.words.specs.Format.{image_word, size}
 use Rattle.imagebank.proofs.NewWords.{code_size}
 use Rattle.imagebank.proofs.new_words.Goals as goal
 
-pub new-word-requires : goal.new-word-requires
-new-word-requires c =
+pub new_word-requires : goal.new_word-requires
+new_word-requires c =
     let z = c.args.sizes.now in
     let got = c.get-record.ensures in (
       c.requires.0,
@@ -24,9 +24,9 @@ loop-place-preserved c =
     let z = c.args.sizes.now in
     let b = new_bank z.kind c.args.first.now.plain.payloads z.stations z.entries in
     let k = c.loop-place.place in
-    let next = c.new-word.ensures ∙ ap (λ r. image_word (new_bank z.kind r.payloads z.stations z.entries) k) c.get-record.ensures in
+    let next = c.new_word.ensures ∙ ap (λ r. image_word (new_bank z.kind r.payloads z.stations z.entries) k) c.get-record.ensures in
     c.in_ok-push.ensures.items
-    ∙ ap (λ l. l ++ (c.new-word.result ∷ [])) c.loop-place.invariant
+    ∙ ap (λ l. l ++ (c.new_word.result ∷ [])) c.loop-place.invariant
     ∙ ap (λ w. map (image_word b) (range_with_len 0 k) ++ (w ∷ [])) next
     ∙ sym (map-range_with_len_more (image_word b) 0 k k (omega arith))
 

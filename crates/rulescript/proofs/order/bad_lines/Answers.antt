@@ -7,16 +7,16 @@ use Rattle.rulescript.proofs.order.bad_lines.Goals as goal
 use Rattle.rulescript.proofs.order.bad_lines.Goals.{in-Some+in_ok-push, in_default}
 
 pub returns-in_err-push : goal.returns-in_err-push
-returns-in_err-push g c = IfOk-from_err c.from-residual.result _ c.from-residual.ensures.0
+returns-in_err-push g c = IfOk-from_err c.from_residual.result _ c.from_residual.ensures.0
 
 pub loop-i-preserved : goal.loop-i-preserved
 loop-i-preserved g c =
     let i = c.loop-i.i in
     let old = vec_items c.loop-i.bad in
-    let more = bad_more c.args.lines.now i old c.loop-i.invariant c.index-lines-i.result c.loop-i-test.true c.index-lines-i.is c.fault-at.result
-    (c.fault-at.ensures ∙ ap (λ n. fault_at (take n c.args.lines.now) c.index-lines-i.result) (sub-zero i)) in
-    let same : vec_items c.match-fault-at.bad ≡ old ++ told_as (i + 1) c.fault-at.result =
-    elim c.match-fault-at.branch [
+    let more = bad_more c.args.lines.now i old c.loop-i.invariant c.index-lines-i.result c.loop-i-test.true c.index-lines-i.is c.fault_at.result
+    (c.fault_at.ensures ∙ ap (λ n. fault_at (take n c.args.lines.now) c.index-lines-i.result) (sub-zero i)) in
+    let same : vec_items c.match-fault_at.bad ≡ old ++ told_as (i + 1) c.fault_at.result =
+    elim c.match-fault_at.branch [
       | in-Some+in_ok-push w ↦ ap vec_items w.bad-is ∙ w.in_ok-push.ensures.items ∙ ap (λ f. old ++ told_as (i + 1) f) (sym w.in-Some.is)
       | in_default w ↦ ap vec_items w.bad-is ∙ sym (append-nil old) ∙ ap (λ f. old ++ told_as (i + 1) f) (sym w.in_default.is)
     ] in

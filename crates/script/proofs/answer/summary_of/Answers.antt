@@ -3,7 +3,7 @@ use Rattle.std.proofs.lemmas.List.{take_all}
 use Rattle.script.specs.Answers.{accepted, count}
 use Rattle.script.proofs.Counting.{count_failed, count_few, count_not, count_passed}
 use Rattle.script.proofs.answer.summary_of.Goals as goal
-use Rattle.script.proofs.answer.summary_of.Goals.{else-is_accepted, then-is-accepted}
+use Rattle.script.proofs.answer.summary_of.Goals.{else-is_accepted, then-is_accepted}
 
 pub overflow_add-accepted : goal.overflow_add-accepted
 overflow_add-accepted c =
@@ -12,8 +12,8 @@ overflow_add-accepted c =
 pub loop-answer-preserved : goal.loop-answer-preserved
 loop-answer-preserved c =
     elim c.if-is_accepted.branch [
-      | then-is-accepted w ↦ count_passed accepted c.args.answers.now c.loop-answer.answer-index _ c.loop-answer-test.true _ _ c.loop-answer.invariant w.if-is_accepted.ensures w.accepted_is
-      | else-is-accepted w ↦ count_failed accepted c.args.answers.now c.loop-answer.answer-index _ c.loop-answer-test.true _ _ c.loop-answer.invariant w.if-is_accepted.ensures w.accepted_is
+      | then-is_accepted w ↦ count_passed accepted c.args.answers.now c.loop-answer.answer-index _ c.loop-answer-test.true _ _ c.loop-answer.invariant w.if-is_accepted.ensures w.accepted-is
+      | else-is_accepted w ↦ count_failed accepted c.args.answers.now c.loop-answer.answer-index _ c.loop-answer-test.true _ _ c.loop-answer.invariant w.if-is_accepted.ensures w.accepted-is
     ]
 
 whole : (c : goal.After-loop-answer) → c.loop-answer.accepted ≡ count accepted c.args.answers.now
