@@ -5,7 +5,7 @@ use Rattle.imagebank.proofs.NewWords.{code_block, new_field, new_station, statio
 use Rattle.imagebank.proofs.new_word.Goals as goal
 
 pub station_word-requires : goal.station_word-requires
-station_word-requires c u =
+station_word-requires c =
     let z = c.args.sizes.now in
     let low = station_low z.kind c.args.first.now.payloads z.stations z.entries c.args.place (1 + z.entries * 5) (omega arith) c.requires.1.1.1 (code_block z.entries) in
     omega (arith, low, to_high 1 64 z.stations (stations_in z.kind z.stations z.entries c.requires.0))

@@ -18,10 +18,11 @@ invariant_of-result-2 g c =
     let ok : allowed c.kind_number.result n m ≡ true = search rules in
     let fits : within (first_record k.plain.payloads) ≡ true = ap (λ r. within (first_record r.payloads)) c.first-first.ensures ∙ ap within (sym c.first-first.ensures) ∙ k.fits in
     let words = c.in_ok-words.words in
-    let long : length (vec_items words) ≡ size n m = ap length c.in_ok-words.ensures ∙ length_image b ok in (
-      whole_if (vec_items words) (ap check_fault c.in_ok-words.ensures ∙ image_passes b (plain_new c.kind_number.result k.plain.payloads n m ok fits)),
-      (sym (ap not (ne_eqb words.len 0 (λ e. omega (arith, long, words.ok.0, e)))), tt),
-    )
+    let long : length (vec_items words) ≡ size n m = ap length c.in_ok-words.ensures ∙ length_image b ok in
+    record {
+      sound = whole_if (vec_items words) (ap check_fault c.in_ok-words.ensures ∙ image_passes b (plain_new c.kind_number.result k.plain.payloads n m ok fits));
+      told = sym (ap not (ne_eqb words.len 0 (λ e. omega (arith, long, words.ok.0, e))));
+    }
 
 pub returns : goal.returns
 returns g c =

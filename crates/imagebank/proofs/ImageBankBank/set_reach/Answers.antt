@@ -23,7 +23,7 @@ invariant_of-self c =
     let s = c.args.station in
     let here : between 1 (imaged ws).n s ≡ true = ap (λ z. between 1 z.stations s) (sym c.sizes_here.ensures) ∙ is_station_there c.sizes_here.result.stations s c.in_ok-check_station.ensures in
     let at : c.place_of_station-place.result ≡ station_place (imaged ws).m s = c.place_of_station-place.ensures ∙ ap (λ z. station_place z.entries s) c.sizes_here-2.ensures in
-    (ap (λ k. whole (set ws k c.station_word.result)) at ∙ ap (λ w. whole (set ws (station_place (imaged ws).m s) w)) c.station_word.ensures ∙ (after_reach ws b.sound s here c.args.reach).0, (b.told, tt))
+    record { sound = ap (λ k. whole (set ws k c.station_word.result)) at ∙ ap (λ w. whole (set ws (station_place (imaged ws).m s) w)) c.station_word.ensures ∙ (after_reach ws b.sound s here c.args.reach).0; told = b.told }
 
 pub returns : goal.returns
 returns c =

@@ -40,7 +40,7 @@ invariant_of-self c =
     c.put_record.ensures ∙ ap (λ l. five l c.place_of_record-place.result (record_word e r)) c.as_mut_slice.ensures.value ∙ ap (λ k. five ws k (record_word e r)) at in
     let long : length c.put_record.new.words ≡ length ws = ap length put ∙ five_long ws (record_place (imaged ws).m s e) (record_word e r) in
     let are = with_items_is b.words c.put_record.new.words (omega (arith, long, b.words.ok.0)) ∙ put in
-    (ap whole are ∙ (after_store ws b.sound s here.0 e r here.1 (sym c.if-not-in_limits.ensures)).0, (b.told, tt))
+    record { sound = ap whole are ∙ (after_store ws b.sound s here.0 e r here.1 (sym c.if-not-in_limits.ensures)).0; told = b.told }
 
 pub returns : goal.returns
 returns c =
