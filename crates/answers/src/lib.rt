@@ -1,4 +1,6 @@
 //! What the calls of a script answer, and how that is told.
+#![tactic(auto)]
+
 ghost use Rattle.answers.specs.Answers.{Answers, Sums, accepted, answer_text, chosen_text, spaced, summary_text};
 ghost use Rattle.std.specs.List.{AllZip};
 ghost use Rattle.std.specs.Prelude.{◌≡◌, IfOk, Some};

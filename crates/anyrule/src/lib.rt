@@ -1,4 +1,6 @@
 //! A rule that is settled while the program runs: one of the three.
+#![tactic(auto)]
+
 ghost use Rattle.anyrule.specs.Making.{Makes, form_line};
 ghost use Rattle.anyrule.specs.Meanings.{any_meaning};
 ghost use Rattle.anyrule.specs.declared.FormFault.TheVariants as fault;
@@ -8,13 +10,13 @@ ghost use Rattle.std.proofs.Common.{rules};
 ghost use Rattle.anyrule.specs.AnyRuleRuleLemmas.{keeps};
 
 use faults::{Fault, Refusal};
-use quorum::level_rule::LevelRule;
 use quorum::fault::{RuleFault, TreeFault};
+use quorum::level_rule::LevelRule;
 use quorum::rule::{Chosen, Rule};
-use std::fmt;
-use quorum::tree_rule::TreeRule;
 use quorum::tree::Tree;
+use quorum::tree_rule::TreeRule;
 use quorum::votes_rule::VotesRule;
+use std::fmt;
 
 /// One of the three rules.
 #[derive(Clone, Copy, PartialEq, Eq, Debug)]

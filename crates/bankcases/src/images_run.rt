@@ -54,9 +54,10 @@ fn the_words_of_a_new_bank(rt: HostRuntime) -> Result<(), Fail> {
     assert_eq!(rt; bank.refusal(), None);
     assert_eq!(rt;
         bank.words(),
-        &[
+        [
             0x10010101, 0x20000003, 0x30010001, 0x40989680, 0x50989680, 0x60989680, 0x70000000,
         ]
+        .as_slice()
     );
     Ok(())
 }

@@ -1,4 +1,6 @@
 //! Station banks: where the records are.
+#![tactic(auto)]
+
 pub mod bank;
 pub mod fault;
 pub mod record;

@@ -1,4 +1,6 @@
 //! Cases that are run: the ends of every range, one past each end, round trips, rules that choose, scripts good and bad.
+#![tactic(auto)]
+
 #[cfg(test)]
 mod numbers_run;
 #[cfg(test)]

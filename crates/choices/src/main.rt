@@ -2,6 +2,8 @@
 //!
 //! With no argument the script is standard input. Each argument is a file with a script of its own. Lines that cannot
 //! be read are told on standard error, all of them, and the program ends with status 1 before any call is made.
+#![tactic(auto)]
+
 use answers::{answers_to, summary_of};
 use anyhow::anyhow;
 use lines::line::Kind;

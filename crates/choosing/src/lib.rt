@@ -1,4 +1,6 @@
 //! What a rule chooses when some copies are away, by the numbers of the copies.
+#![tactic(auto)]
+
 ghost use Rattle.std.specs.Prelude.{◌≡◌, ◌≤◌, length, take, IfOk, Some, None, MatchResult};
 ghost use Rattle.choosing.specs.Numbers.{Choice, Numbered, named, no_choice_text, no_copy, reach_without};
 ghost use Rattle.quorum.specs.Choosing.{Chooses, Fitting};

@@ -1,4 +1,6 @@
 //! A layer over a bank that shuts some of its stations.
+#![tactic(auto)]
+
 ghost use Rattle.closing.specs.Closing.{closing, closing_fault, is_shut};
 ghost use Rattle.std.specs.Prelude.{◌≡◌};
 ghost use Rattle.closing.specs.Closings.{closing_lawful};

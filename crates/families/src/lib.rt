@@ -2,6 +2,8 @@
 //!
 //! The definitions are in `specs/`. The functions here state what is proved of them, for every degree, every height
 //! and every list of votes.
+#![tactic(auto)]
+
 ghost use Rattle.std.specs.Prelude.{◌≡◌, ℕ, ◌≤◌, List, Some};
 ghost use Rattle.families.specs.Meaning.{Lawful, quorum_name};
 ghost use Rattle.families.specs.Levels.{levels_rule};

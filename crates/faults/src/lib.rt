@@ -1,6 +1,8 @@
 //! How a refusal is told: by its number, by the layer that refuses, and by the place where the cause was met.
 //!
 //! Every layer has a fault type of its own, an enum with one variant for each cause. What they have in common is here.
+#![tactic(auto)]
+
 ghost use Rattle.faults.specs.Line.{Line, layer_name, refusal_text, told};
 ghost use Rattle.std.specs.Prelude.{◌≡◌, true, Some};
 

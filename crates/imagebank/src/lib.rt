@@ -1,4 +1,6 @@
 //! A bank that keeps its records as an image: words of 32 bits.
+#![tactic(auto)]
+
 ghost use Rattle.std.specs.Prelude.{◌≡◌, ◌+◌, ◌<◌, ◌≤◌, true, not, length, IfOk, vec_len, ◌==◌};
 ghost use Rattle.banks.specs.Calls.{answered, fetch_fault, sizes_of};
 ghost use Rattle.banks.specs.Limits.{allowed_sizes, between, within};

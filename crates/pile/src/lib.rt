@@ -1,4 +1,6 @@
 //! A bank that is settled while the program runs, and the layers over it.
+#![tactic(auto)]
+
 ghost use Rattle.pile.specs.Piles.{any_bank, piled};
 ghost use Rattle.pile.specs.Laws.{any_lawful, piled_lawful};
 

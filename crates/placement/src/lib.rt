@@ -1,4 +1,6 @@
 //! A layer over a bank that puts its stations into another order.
+#![tactic(auto)]
+
 ghost use Rattle.banks.specs.Calls.{answered, first, no_station, sizes_of};
 ghost use Rattle.placement.specs.Placing.{placing, placing_fault, retold, retold_answer};
 ghost use Rattle.places.specs.Places.{first_wrong, place_of};

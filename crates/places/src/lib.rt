@@ -1,4 +1,6 @@
 //! The test of a list of places: each station is to be named just once.
+#![tactic(auto)]
+
 ghost use Rattle.std.specs.Prelude.{◌≡◌, ◌+◌, ◌<◌, length, None};
 ghost use Rattle.families.specs.Copies.{among};
 ghost use Rattle.places.specs.Places.{Once, first_wrong, right};

@@ -1,4 +1,6 @@
 //! Quorum rules: which copies a reading or a writing takes.
+#![tactic(auto)]
+
 pub mod copy_set;
 pub mod fault;
 pub mod level_rule;

@@ -1,4 +1,6 @@
 //! A bank that keeps its records in a table.
+#![tactic(auto)]
+
 ghost use Rattle.std.specs.Prelude.{◌≡◌, ◌*◌, ◌<◌, true, IfOk, Some, vec_len};
 ghost use Rattle.banks.specs.Calls.{answered, fetch_fault};
 ghost use Rattle.banks.specs.Limits.{between};

@@ -1,4 +1,6 @@
 //! The image of a bank as words of 32 bits, and the test of an image.
+#![tactic(auto)]
+
 ghost use Rattle.std.specs.Prelude.{◌≡◌, ◌<◌, ◌≤◌, map, length, Ok, slice_index};
 ghost use Rattle.banks.specs.Calls.{answered, first};
 ghost use Rattle.std.specs.List.{range_with_len};

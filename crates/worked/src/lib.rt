@@ -1,5 +1,7 @@
 //! Worked cases: a table of what rules choose and what is refused, held against the definitions that the contracts of
 //! the calls cite.
+#![tactic(auto)]
+
 ghost use Rattle.std.specs.List.{AllByRecursion as All};
 ghost use Rattle.worked.specs.Table.{Has, table};
 ghost use Rattle.std.specs.Prelude.{◌≡◌, length};

@@ -11,8 +11,7 @@ loop-place-init c j h = let first : j ≡ 0 = omega arith in subst (λ k. due c.
 
 pub fits_at-requires : goal.fits_at-requires
 fits_at-requires c =
-    let ws = c.args.words.now in
-    (
+    let ws = c.args.words.now in (
       omega (arith, short ws c.requires.headed, c.requires.told),
       (omega arith, subst (λ m. c.loop-place.place < size 64 m) (sym c.requires.told) (in_size ws c.requires.headed c.loop-place.place c.loop-place-test.true)),
     )
