@@ -1,12 +1,12 @@
 -- Marks and numbers, one copy at a time.
-use Rattle.std.proofs.Common.{◌≡◌, ℕ, zero, suc, ◌+◌, ◌-◌, ◌<◌, ◌≤◌, Bool, true, false, cond, not, ◌||◌, T, eqb, ◌≢◌, List, [], ◌∷◌, ◌++◌, map, length, get_or, take, drop, set, Some, None, filter, sym, refl, ap, ◌∙◌, subst, append-nil, add-one, arith, eqb→eq, length-take-le, drop-cons, get_or-set_other, get_or-take, get_or-set_same}
+use Rattle.std.proofs.Common.{◌≡◌, ℕ, zero, suc, ◌+◌, ◌-◌, ◌<◌, ◌≤◌, Bool, true, false, cond, not, ◌||◌, T, eqb, ◌≢◌, List, [], ◌∷◌, ◌++◌, length, get_or, take, drop, set, Some, None, filter, sym, refl, ap, ◌∙◌, subst, append-nil, add-one, arith, eqb→eq, length-take-le, drop-cons, get_or-set_other, get_or-take, get_or-set_same}
 use lib.Dec.{eqb_refl}
 use Rattle.std.specs.List.{range_with_len}
 use Rattle.std.proofs.lemmas.List.FromFn.{get_or-range_with_len, get_or-map-range_with_len, length-range_with_len, length-map-range_with_len}
 use Rattle.std.proofs.lemmas.List.Elements.{filter_more}
 use Rattle.std.proofs.lemmas.List.{ext_get_or, take_all, take_more}
 use Rattle.std.proofs.lemmas.Bool.Decides.{nat_tests}
-use Rattle.families.specs.Copies.{among, is_copy, marked, marks}
+use Rattle.families.specs.Copies.{among, is_copy, marked}
 use Rattle.choosing.specs.Numbers.{named, no_copy, reach_without}
 
 -- the numbers of the copies marked

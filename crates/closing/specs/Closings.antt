@@ -1,9 +1,9 @@
 -- What the calls of a closed bank come to, by those of the bank below.
-use Rattle.std.specs.Prelude.{◌≡◌, ℕ, Bool, true, false, cond, not, ◌⊎◌, List, Some, None, Err, Option, ◌==◌, refl}
+use Rattle.std.specs.Prelude.{◌≡◌, ℕ, Bool, true, false, cond, ◌⊎◌, List, Some, None, Err, Option, ◌==◌, refl}
 use Rattle.std.proofs.Common.{inl, inr, sym, ap, ◌∙◌, eqb-true}
 use Rattle.std.proofs.Math.Path.{fun_ext}
 use Rattle.banks.proofs.Makings.{empty_lawful, made_if}
-use Rattle.banks.specs.Calls.{altered, answered, no_station, reach_answer, reach_fault, reach_set, store_answer, store_fault, stored, with_cell, with_reach, with_station_reach}
+use Rattle.banks.specs.Calls.{altered, answered, reach_answer, reach_fault, reach_set, store_answer, store_fault, stored, with_cell, with_reach, with_station_reach}
 use Rattle.banks.specs.Limits.{allowed, between}
 use Rattle.banks.specs.Making.{settled}
 use Rattle.banks.specs.Meaning.{Empty, Lawful, Meaning, Station}

@@ -2,7 +2,7 @@
 use Rattle.std.proofs.Common.{◌≡◌, ℕ, zero, suc, ◌+◌, ◌-◌, ◌*◌, ◌<◌, ◌≤◌, Bool, true, false, not, ◌&&◌, ◌||◌, T, leb, List, [], ◌∷◌, refl, ap, ◌∙◌, mul_assoc, add-mul, mul-le-mul_left, one-mul, mul-suc, arith}
 use Rattle.std.specs.List.{range_with_len, AllByRecursion as All}
 use Rattle.families.specs.Copies.{Copies}
-use Rattle.families.specs.Trees.{children, count, holds, joined, last_copy, most}
+use Rattle.families.specs.Trees.{children, holds, joined, last_copy, most}
 use Rattle.families.specs.declared.Quorum.{Quorum}
 use Rattle.families.specs.declared.Quorum.TheVariants.{Read, Write}
 use Rattle.families.proofs.Counts.{count_same, most_all, most_grow, most_split}

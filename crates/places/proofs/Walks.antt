@@ -1,5 +1,5 @@
 -- One place more, and what a list means that is right throughout.
-use Rattle.std.proofs.Common.{◌≡◌, ℕ, zero, suc, ◌+◌, ◌-◌, ◌<◌, ◌≤◌, Bool, true, false, cond, not, ◌||◌, eqb, ltb, List, [], ◌∷◌, length, get_or, take, drop, Some, None, Option, sym, refl, ap, ◌∙◌, subst, add-one, arith, length-take-le, drop-cons, get_or-take, ltb-false, ltb-true}
+use Rattle.std.proofs.Common.{◌≡◌, ℕ, zero, suc, ◌+◌, ◌-◌, ◌<◌, ◌≤◌, Bool, true, false, cond, ◌||◌, eqb, ltb, List, [], ◌∷◌, length, get_or, take, drop, Some, None, Option, sym, refl, ap, ◌∙◌, subst, add-one, arith, length-take-le, drop-cons, get_or-take, ltb-false, ltb-true}
 use lib.Dec.{eqb_refl}
 use Rattle.families.specs.Copies.{among, is_copy}
 use Rattle.places.specs.Places.{Once, first_failing, first_wrong, place_of, right}

@@ -1,5 +1,5 @@
 -- Subtrees whose copies all have marks.
-use Rattle.std.proofs.Common.{◌≡◌, ℕ, zero, suc, ◌+◌, ◌-◌, ◌*◌, ◌<◌, ◌≤◌, Bool, true, false, cond, not, List, [], ◌∷◌, ◌++◌, filter, sym, refl, ap, ◌∙◌, subst, suc-le-suc, zero-le, le_trans, mul_assoc, add-mul, mul-le-mul_left, one-mul, mul-suc, arith}
+use Rattle.std.proofs.Common.{◌≡◌, ℕ, zero, suc, ◌+◌, ◌-◌, ◌*◌, ◌<◌, ◌≤◌, not, filter, ap, ◌∙◌, mul-suc, arith}
 use Rattle.std.specs.List.{range_with_len, AllByRecursion as All}
 use Rattle.std.proofs.ByRecursion.{All-append, all_kept_by}
 use Rattle.families.proofs.TreeFamilies.{at_most_last, last_grows}

@@ -1,7 +1,7 @@
 -- From a set that was chosen to the rule's choice.
-use Rattle.std.proofs.Common.{◌≡◌, ℕ, false, List, length, Some, None, Ok, Err, Option, Result, sym, refl, ap, ◌∙◌, subst, MatchOption}
+use Rattle.std.proofs.Common.{◌≡◌, ℕ, List, Some, None, Ok, Err, Option, Result, sym, refl, ap, ◌∙◌, subst, MatchOption}
 use mathlib.Core.Path.{fun_ext}
-use Rattle.families.specs.Copies.{Copies, among, marked, marks}
+use Rattle.families.specs.Copies.{Copies, among, marks}
 use Rattle.families.specs.Meaning.{Chosen, Lawful, Meaning}
 use Rattle.families.specs.declared.Quorum.{Quorum}
 use Rattle.families.specs.declared.Quorum.TheVariants.{Read, Write}

@@ -1,8 +1,8 @@
 -- One mark more, read or written.
-use Rattle.std.proofs.Common.{◌≡◌, ℕ, zero, suc, ◌+◌, ◌-◌, ◌<◌, ◌≤◌, Bool, true, false, cond, not, ◌&&◌, ◌||◌, eqb, leb, ◌⊎◌, List, [], ◌∷◌, ◌++◌, map, get_or, sym, refl, ap, ◌∙◌, subst, inl, inr, add-zero, add-one, arith}
+use Rattle.std.proofs.Common.{◌≡◌, ℕ, zero, suc, ◌+◌, false, cond, ◌||◌, eqb, List, [], ◌∷◌, ◌++◌, map, get_or, refl, ap, ◌∙◌, add-zero, arith}
 use Rattle.std.specs.List.{range_with_len}
 use Rattle.std.proofs.lemmas.Bool.Decides.{nat_tests}
-use Rattle.families.specs.Copies.{Copies, is_copy, marked, marks}
+use Rattle.families.specs.Copies.{Copies, marked, marks}
 
 pub marked_none : (ms : List ℕ) (k : ℕ) → false ≡ marked 0 ms k
 marked_none ms k = grind (arith, nat_tests)

@@ -1,10 +1,9 @@
 -- Votes counted along their list.
-use Rattle.std.proofs.Common.{◌≡◌, ℕ, zero, suc, ◌+◌, ◌-◌, ◌<◌, Bool, true, false, not, ◌&&◌, ◌||◌, eqb, List, [], ◌∷◌, ◌++◌, Some, None, Option, sym, refl, ap, ◌∙◌, arith, eqb→eq}
-use Rattle.std.proofs.lemmas.List.{append-nil}
-use Rattle.families.specs.Copies.{Copies, among}
+use Rattle.std.proofs.Common.{◌≡◌, ℕ, zero, suc, ◌+◌, ◌-◌, ◌<◌, Bool, true, false, not, ◌&&◌, ◌||◌, eqb, List, [], ◌∷◌, Some, None, Option, sym, refl, ap, arith, eqb→eq}
+use Rattle.families.specs.Copies.{Copies}
 use Rattle.families.specs.Trees.{with_copies}
 use Rattle.families.specs.Votes.{votes_choice}
-use Rattle.quorum.specs.Sets.{Is, Same, members}
+use Rattle.quorum.specs.Sets.{Is, members}
 use Rattle.quorum.specs.declared.copy_set.CopySet.{CopySet}
 use Rattle.quorum.proofs.Gathering.{SoFar, added_one, complete, lacking, nothing_yet, passed_over}
 

@@ -1,5 +1,5 @@
 -- The refusals of trees and of rules.
-use Rattle.std.specs.Prelude.{ℕ, true, ◌==◌}
+use Rattle.std.specs.Prelude.{true, ◌==◌}
 use Rattle.faults.specs.Line.{Line}
 use Rattle.faults.specs.declared.Layer.TheVariants.{Rule, Tree}
 use Rattle.quorum.specs.declared.fault.RuleFault.{RuleFault}

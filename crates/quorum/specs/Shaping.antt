@@ -1,5 +1,5 @@
 -- What is known of an allowed tree: its degree is odd, and it has at most 57 copies.
-use Rattle.std.specs.Prelude.{◌≡◌, ℕ, zero, suc, ◌+◌, ◌-◌, ◌*◌, ◌/◌, ◌<◌, ◌≤◌, Bool, true, ◌&&◌, ◌||◌, T, ◌==◌, nat_le, refl}
+use Rattle.std.specs.Prelude.{◌≡◌, ℕ, zero, suc, ◌+◌, ◌-◌, ◌*◌, ◌/◌, ◌<◌, ◌≤◌, true, ◌&&◌, T, ◌==◌, nat_le, refl}
 use Rattle.std.proofs.Common.{sym, ap, subst, ◌∙◌, mul_comm, arith, eqb→eq, leb→le, lit≤}
 use Rattle.families.proofs.Sets.{and_left, and_right, or_either}
 use Rattle.families.proofs.TreeFamilies.{at_most_last}

@@ -1,4 +1,4 @@
-use Rattle.std.proofs.Common.{◌≡◌, ◌+◌, [], ◌∷◌, ◌++◌, map, sym, ap, ◌∙◌, arith}
+use Rattle.std.proofs.Common.{◌≡◌, [], ◌∷◌, ◌++◌, map, sym, ap, ◌∙◌, arith}
 use Rattle.banks.specs.Limits.{within}
 use Rattle.banks.specs.Making.{new_bank}
 use Rattle.std.proofs.lemmas.List.FromFn.{map-range_with_len_more}

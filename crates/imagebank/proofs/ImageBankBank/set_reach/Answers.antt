@@ -2,7 +2,7 @@ use Rattle.std.proofs.Common.{◌≡◌, true, set, vec_items, sym, ap, ◌∙�
 use Rattle.banks.proofs.Causes.{is_station_there, reach_done}
 use Rattle.banks.specs.Limits.{between}
 use Rattle.words.proofs.Plains.{unshut}
-use Rattle.words.specs.Format.{imaged, station_place, station_word}
+use Rattle.words.specs.Format.{imaged, station_place}
 use Rattle.imagebank.specs.Whole.{whole}
 use Rattle.imagebank.proofs.ImageBankBank.set_reach.Goals as goal
 use Rattle.imagebank.specs.Wholes.{after_reach, plain, station_in}

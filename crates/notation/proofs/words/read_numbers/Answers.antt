@@ -1,4 +1,4 @@
-use Rattle.std.proofs.Common.{◌<◌, ◌≢◌, length, get_or, set, arith, length-set, get_or-set_other, get_or-set_same, rules, below_more}
+use Rattle.std.proofs.Common.{◌<◌, ◌≢◌, length, get_or, arith, length-set, get_or-set_other, get_or-set_same, rules, below_more}
 use lib.ListN.{length-replicate}
 use Rattle.numbers.specs.Written.{Whole}
 use Rattle.notation.specs.Words.{IsWhole, texts, word}

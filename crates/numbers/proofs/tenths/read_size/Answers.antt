@@ -1,4 +1,4 @@
-use Rattle.std.proofs.Common.{◌<◌, Some, None, inl, inr, arith, lit<}
+use Rattle.std.proofs.Common.{Some, None, inl, inr, arith, lit<}
 use Rattle.std.proofs.lemmas.Str.Pattern.{split_parts}
 use Rattle.numbers.proofs.Reading.{size_at_point, size_no_point, sized_by}
 use Rattle.numbers.proofs.tenths.read_size.Goals as goal

@@ -1,10 +1,10 @@
-use Rattle.std.proofs.Common.{◌≡◌, ℕ, suc, ◌+◌, ◌-◌, ◌/◌, ◌≤◌, Bool, [], ◌∷◌, length, Some, None, sym, refl, ap, ◌∙◌, subst, add-zero, add-one, arith}
+use Rattle.std.proofs.Common.{◌≡◌, ℕ, ◌+◌, ◌-◌, ◌≤◌, Bool, [], ◌∷◌, length, sym, refl, ap, subst, add-zero, add-one, arith}
 use native.Mathlib.Nat.{sub-zero}
-use Rattle.families.specs.Levels.{alone, half_choice, more_than_half}
+use Rattle.families.specs.Levels.{alone, more_than_half}
 use Rattle.std.proofs.lemmas.List.FromFn.{length-range_with_len}
 use Rattle.std.specs.List.{range_with_len}
 use Rattle.quorum.specs.declared.copy_set.CopySet.{CopySet}
-use Rattle.quorum.specs.Sets.{Is, members}
+use Rattle.quorum.specs.Sets.{members}
 use Rattle.quorum.proofs.Gathering.{Gathered, gathered_all, gathered_done, gathered_none, gathered_one, gathered_skip, gathered_too_few}
 use Rattle.quorum.proofs.RowProofs.{counting_next, counting_none}
 use Rattle.quorum.proofs.level_rule.choose_half.Goals as goal

@@ -1,4 +1,4 @@
-use Rattle.std.proofs.Common.{◌+◌, ◌-◌, ◌≤◌}
+use Rattle.std.proofs.Common.{◌+◌, ◌-◌}
 use Rattle.families.specs.Levels.{alone, more_than_half}
 use Rattle.std.specs.List.{range_with_len}
 use Rattle.quorum.specs.Sets.{members}

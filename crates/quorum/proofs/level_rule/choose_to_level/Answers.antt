@@ -1,7 +1,6 @@
-use Rattle.std.proofs.Common.{◌≡◌, ℕ, suc, ◌+◌, ◌<◌, ◌≤◌, sym, subst, add-one, arith}
+use Rattle.std.proofs.Common.{suc, ◌+◌, subst, add-one, arith}
 use Rattle.families.proofs.LevelLaws.{level_bounds, level_end}
-use Rattle.families.specs.Levels.{half_choice, level, level_choice, level_first, level_size}
-use Rattle.families.specs.Trees.{last_copy}
+use Rattle.families.specs.Levels.{half_choice, level, level_choice, level_first}
 use Rattle.std.specs.List.{range_with_len}
 use Rattle.quorum.specs.Sets.{Is, members}
 use Rattle.quorum.proofs.level_rule.choose_to_level.Goals as goal

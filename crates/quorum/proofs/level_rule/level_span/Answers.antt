@@ -1,4 +1,4 @@
-use Rattle.std.proofs.Common.{◌≡◌, ℕ, suc, ◌+◌, ◌-◌, ◌*◌, ◌<◌, ◌≤◌, sym, ap, ◌∙◌, subst, mul_comm, add-one, arith}
+use Rattle.std.proofs.Common.{◌≡◌, ℕ, ◌+◌, ◌-◌, ◌*◌, ◌<◌, ◌≤◌, ap, ◌∙◌, mul_comm, add-one, arith}
 use Rattle.families.proofs.LevelLaws.{level_bounds, level_first_from_one}
 use Rattle.families.specs.Levels.{level_first, level_size}
 use Rattle.families.specs.Trees.{last_copy}

@@ -1,4 +1,4 @@
-use Rattle.std.proofs.Common.{◌≡◌, ◌+◌, ◌||◌, eqb, length, sym, ap, ◌∙◌, subst, arith}
+use Rattle.std.proofs.Common.{◌≡◌, ◌+◌, ◌||◌, eqb, length, ap, ◌∙◌, subst, arith}
 use Rattle.families.specs.Copies.{marked}
 use Rattle.quorum.specs.Sets.{Same, members}
 use Rattle.quorum.proofs.Marked.{marked_no, marked_none, marked_yes}

@@ -1,4 +1,3 @@
-use Rattle.std.proofs.Common.{◌≤◌, length}
 use Rattle.families.specs.Copies.{marked}
 use Rattle.quorum.specs.Sets.{Same, members}
 use Rattle.quorum.proofs.marks.marked_set.Given as goal

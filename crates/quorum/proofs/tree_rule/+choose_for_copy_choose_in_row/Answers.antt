@@ -1,10 +1,9 @@
-use Rattle.std.proofs.Common.{◌≡◌, ℕ, suc, ◌+◌, ◌-◌, ◌*◌, ◌<◌, ◌≤◌, List, ◌∷◌, length, get_or, take, drop, sym, refl, ap, ◌∙◌, subst, add-one, arith, rules}
+use Rattle.std.proofs.Common.{◌≡◌, ℕ, suc, ◌+◌, ◌-◌, ◌*◌, List, ◌∷◌, get_or, take, drop, sym, add-one, arith, rules}
 use native.Mathlib.Nat.{sub-zero}
 use Rattle.std.proofs.ByRecursion.{All-get_or}
 use Rattle.std.proofs.lemmas.List.{drop_more, drop_all}
 use Rattle.quorum.specs.Sets.{members}
 use Rattle.families.specs.Trees.{choice}
-use Rattle.quorum.specs.Rows.{Fits}
 use Rattle.quorum.proofs.Fitting.{copy_marked, last_child_marked, children_fit, near_first_fits}
 use Rattle.quorum.proofs.Gathering.{Gathered, gathered_none, gathered_done, gathered_skip, gathered_take, gathered_all, gathered_too_few, reading_here, reading_away, writing_away, writing_none, writing_here}
 use Rattle.quorum.proofs.tree_rule.+choose_for_copy_choose_in_row.Goals as goal

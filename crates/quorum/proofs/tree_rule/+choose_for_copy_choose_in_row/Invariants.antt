@@ -1,4 +1,4 @@
-use Rattle.std.proofs.Common.{suc, ◌+◌, ◌*◌, ◌≤◌, drop}
+use Rattle.std.proofs.Common.{suc, ◌+◌, ◌*◌, drop}
 use Rattle.quorum.specs.Sets.{members}
 use Rattle.families.specs.Trees.{choice}
 use Rattle.quorum.proofs.Gathering.{Gathered}

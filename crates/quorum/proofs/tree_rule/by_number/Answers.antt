@@ -1,4 +1,4 @@
-use Rattle.std.proofs.Common.{◌∙◌, arith, length-set, rules}
+use Rattle.std.proofs.Common.{◌∙◌, arith, length-set}
 use Rattle.quorum.proofs.RowProofs.{numbered_more}
 use Rattle.quorum.proofs.tree_rule.by_number.Goals as goal
 

@@ -1,8 +1,6 @@
-use Rattle.std.proofs.Common.{◌≡◌, ℕ, ◌+◌, ◌*◌, ◌<◌, ◌≤◌, true, false, not, List, [], ◌++◌, length, take, filter, sym, refl, ap, ◌∙◌, subst, arith, rules}
-use mir.Val as val
-use Rattle.std.specs.List.{range_with_len}
+use Rattle.std.proofs.Common.{◌+◌, ◌*◌, ◌<◌, not, [], sym, ap, arith, rules}
 use Rattle.quorum.specs.Sets.{members}
-use Rattle.quorum.proofs.RowProofs.{Begins, begins_yes, begins_no, room_left, kept_all}
+use Rattle.quorum.proofs.RowProofs.{begins_yes, begins_no, room_left, kept_all}
 use Rattle.quorum.proofs.tree_rule.near_first.Goals as goal
 use Rattle.quorum.proofs.tree_rule.near_first.Goals.{then-has, else-has, then-not-has, else-not-has}
 

@@ -1,4 +1,4 @@
-use Rattle.std.proofs.Common.{◌≡◌, ◌+◌, ◌*◌, ◌≤◌, not, [], ◌++◌, take, filter}
+use Rattle.std.proofs.Common.{◌≤◌, not, [], ◌++◌, filter}
 use Rattle.std.specs.List.{range_with_len}
 use Rattle.quorum.specs.Sets.{members}
 use Rattle.quorum.proofs.RowProofs.{Begins}

@@ -1,4 +1,4 @@
-use Rattle.std.proofs.Common.{◌≡◌, ◌+◌, ◌-◌, ◌∷◌, get_or, drop, sym, ap, ◌∙◌, arith}
+use Rattle.std.proofs.Common.{◌+◌, ◌-◌, ◌∷◌, get_or, drop, sym, ap, ◌∙◌, arith}
 use Rattle.std.proofs.lemmas.List.{drop_all, drop_more}
 use Rattle.quorum.specs.Sets.{members}
 use Rattle.quorum.proofs.VoteCounting.{Counted, counted_all, counted_done, counted_none, counted_skip, counted_take, counted_too_few, is_away, is_taken, is_without}

@@ -1,4 +1,4 @@
-use Rattle.std.proofs.Common.{◌≡◌, ◌≤◌, take}
+use Rattle.std.proofs.Common.{◌≡◌, take}
 use Rattle.script.specs.Answers.{accepted, count}
 use Rattle.script.proofs.answer.summary_of.Given as goal
 

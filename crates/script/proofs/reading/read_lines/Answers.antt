@@ -1,4 +1,4 @@
-use Rattle.std.proofs.Common.{◌≡◌, vec_items, subst}
+use Rattle.std.proofs.Common.{vec_items, subst}
 use Rattle.std.proofs.lemmas.Result.{IfOk-from_err}
 use Rattle.std.specs.Str.Iter.{lines_rest}
 use Rattle.script.specs.Lines.{Means}

@@ -1,4 +1,4 @@
-use Rattle.std.proofs.Common.{◌≡◌, ◌<◌, ◌≤◌, length, arith, rules}
+use Rattle.std.proofs.Common.{◌≡◌, length, arith, rules}
 use Rattle.quorum.proofs.Marking.{joined_below, joined_above, joined_all}
 use Rattle.quorum.proofs.copy_set.CopySet.add_all.Goals as goal
 

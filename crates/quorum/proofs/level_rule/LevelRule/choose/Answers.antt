@@ -1,4 +1,4 @@
-use Rattle.std.proofs.Common.{◌≡◌, ◌/◌, ◌≤◌, length, sym, refl, ap, ◌∙◌, subst}
+use Rattle.std.proofs.Common.{◌≡◌, ◌/◌, length, refl, ◌∙◌, subst}
 use Rattle.families.specs.Copies.{marked}
 use Rattle.families.specs.Levels.{level_choice, levels_rule}
 use Rattle.families.specs.Trees.{copies_of}

@@ -1,7 +1,7 @@
-use Rattle.std.proofs.Common.{◌≡◌, ℕ, ◌+◌, ◌*◌, ◌/◌, ◌%◌, ◌<◌, ◌≤◌, true, sym, ap, ◌∙◌, subst, arith}
+use Rattle.std.proofs.Common.{◌≡◌, ℕ, ◌+◌, ◌/◌, ◌%◌, ◌<◌, ◌≤◌, true, sym, subst, arith}
 use Rattle.families.proofs.LevelLaws.{level_bounds, level_end, level_odd}
 use Rattle.families.specs.Levels.{level_size}
-use Rattle.families.specs.Trees.{copies_of, last_copy}
+use Rattle.families.specs.Trees.{last_copy}
 use Rattle.quorum.specs.Shapes.{allowed_tree}
 use Rattle.quorum.specs.Shaping.{few_copies, low_degree}
 use Rattle.quorum.proofs.level_rule.LevelRule.new.Goals as goal

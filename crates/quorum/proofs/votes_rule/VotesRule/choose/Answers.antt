@@ -1,4 +1,4 @@
-use Rattle.std.proofs.Common.{◌≡◌, ◌-◌, length, take, sym, refl, ap, ◌∙◌, subst}
+use Rattle.std.proofs.Common.{◌≡◌, length, take, sym, refl, ◌∙◌, subst}
 use native.Mathlib.Nat.{sub-zero}
 use Rattle.families.specs.Copies.{marked}
 use Rattle.families.specs.Votes.{threshold, votes_choice, votes_rule}
