@@ -10,6 +10,7 @@ use script::answer::{answers_to, summary_of};
 use script::line::{Call, Kind};
 use script::order::kind_of;
 use script::reading::{Unread, read_lines, read_script};
+use std::process::ExitCode;
 use std::{env, fs, io};
 use values::baseline::Baseline;
 use values::notice::Notice;
@@ -74,10 +75,12 @@ fn run_file(rt: &HostRuntime, file: &str) -> anyhow::Result<()> {
     run_text(rt, text.as_str())
 }
 
-fn main(rt: HostRuntime) -> anyhow::Result<()> {
-    let result = run(&rt);
-    if let Err(e) = &result {
-        eprintln!(rt; "baselines: {e}")?;
+fn main(rt: HostRuntime) -> ExitCode {
+    match run(&rt) {
+        Ok(()) => ExitCode::SUCCESS,
+        Err(e) => {
+            let _ = eprintln!(rt; "baselines: {e}");
+            ExitCode::FAILURE
+        }
     }
-    result
 }

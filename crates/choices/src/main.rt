@@ -11,6 +11,7 @@ use lines::reading::read_lines;
 use notation::written::Written;
 use rulescript::order::kind_of;
 use rulescript::reading::{Script, Unread, read_script};
+use std::process::ExitCode;
 use std::{env, fs, io};
 use values::baseline::Baseline;
 use values::notice::Notice;
@@ -79,10 +80,12 @@ fn run_file(rt: &HostRuntime, file: &str) -> anyhow::Result<()> {
     run_text(rt, text.as_str())
 }
 
-fn main(rt: HostRuntime) -> anyhow::Result<()> {
-    let result = run(&rt);
-    if let Err(e) = &result {
-        eprintln!(rt; "choices: {e}")?;
+fn main(rt: HostRuntime) -> ExitCode {
+    match run(&rt) {
+        Ok(()) => ExitCode::SUCCESS,
+        Err(e) => {
+            let _ = eprintln!(rt; "choices: {e}");
+            ExitCode::FAILURE
+        }
     }
-    result
 }

@@ -2,7 +2,7 @@
 use Rattle.std.proofs.Common.{◌≡◌, ℕ, suc, ◌+◌, ◌-◌, ◌*◌, ◌<◌, ◌≤◌, Bool, true, false, cond, not, T, leb, List, [], ◌∷◌, ◌++◌, length, filter, sym, refl, ap, ◌∙◌, suc-le-suc, zero-le, le_trans, arith, le→leb, leb→le}
 use lib.Dec.{nleb→lt}
 use Rattle.std.proofs.lemmas.List.FromFn.{length-range_with_len}
-use Rattle.std.specs.List.{AllByRecursion as All}
+use Rattle.std.specs.List.{AllByRecursion}
 use Rattle.families.specs.Copies.{Copies}
 use Rattle.families.specs.Trees.{children, count, most, near_first, one_if}
 
@@ -29,7 +29,7 @@ pub count_all : (p : ℕ → Bool) → ((c : ℕ) → T (p c)) → (row : List �
 count_all p f [] = zero-le
 count_all p f (c ∷ row) = one_if_grow true (p c) _ _ (λ _. f c) (count_all p f row)
 
-pub count_same : (p q : ℕ → Bool) (row : List ℕ) → All (λ c. p c ≡ q c) row → count p row ≡ count q row
+pub count_same : (p q : ℕ → Bool) (row : List ℕ) → AllByRecursion (λ c. p c ≡ q c) row → count p row ≡ count q row
 count_same p q [] h = refl
 count_same p q (c ∷ row) h = rw h.0 (ap (one_if (q c)) (count_same p q row h.1))
 

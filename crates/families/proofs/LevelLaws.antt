@@ -1,7 +1,7 @@
 -- The levels rule keeps the laws.
 use Rattle.std.proofs.Common.{◌≡◌, ℕ, zero, suc, ◌+◌, ◌-◌, ◌*◌, ◌≤◌, Bool, true, false, not, ◌&&◌, ◌||◌, T, leb, List, ◌++◌, length, Some, None, Option, sym, refl, ap, ◌∙◌, subst, le_trans, add-zero, mul-add, mul_left_comm, arith, le→leb, leb→le}
 use Rattle.std.proofs.lemmas.List.FromFn.{length-range_with_len}
-use Rattle.std.specs.List.{range_with_len, AllByRecursion as All}
+use Rattle.std.specs.List.{range_with_len, AllByRecursion}
 use Rattle.families.specs.Copies.{Copies, among, is_copy, marked, outside}
 use Rattle.families.specs.Levels.{alone, choice_joined, half_choice, half_held, level, level_choice, level_first, level_holds, level_size, levels_rule, more_than_half}
 use Rattle.families.specs.Meaning.{Lawful}
@@ -63,11 +63,11 @@ level_bounds d k h l =
     let e : k + (h - k) ≡ h = omega arith in
     omega (arith, level_end d k, rw e at (last_mono d k (h - k)))
 
-run_in : (n a m : ℕ) → 1 ≤ a → a + m ≤ n + 1 → All (λ c. T (is_copy n c)) (range_with_len a m)
+run_in : (n a m : ℕ) → 1 ≤ a → a + m ≤ n + 1 → AllByRecursion (λ c. T (is_copy n c)) (range_with_len a m)
 run_in n a zero p l = tt
 run_in n a (suc m) p l = (copy_from n a p (omega arith), run_in n (a + 1) m (omega arith) (omega arith))
 
-level_in : (d k n : ℕ) → last_copy d k 1 ≤ n → All (λ c. T (is_copy n c)) (level d k)
+level_in : (d k n : ℕ) → last_copy d k 1 ≤ n → AllByRecursion (λ c. T (is_copy n c)) (level d k)
 level_in d k n l = run_in n (level_first d k) (level_size d k) (level_first_from_one d k) (omega (arith, level_end d k))
 
 -- halves
@@ -92,7 +92,7 @@ half_all d k =
     let len : length (level d k) ≡ 2 * o.half + 1 = length-range_with_len (level_first d k) (level_size d k) ∙ o.is in
     le→leb _ (count (λ c. true) (level d k)) (omega (arith, len, count_all (λ c. true) (λ c. tt) (level d k)))
 
-half_same : (n : ℕ) (s t : Copies) → Agree n s t → (row : List ℕ) → All (λ c. T (is_copy n c)) row → half_held s row ≡ half_held t row
+half_same : (n : ℕ) (s t : Copies) → Agree n s t → (row : List ℕ) → AllByRecursion (λ c. T (is_copy n c)) row → half_held s row ≡ half_held t row
 half_same n s t e row h = ap (λ m. leb (more_than_half (length row)) m) (count_same s t row (all_map (λ c i. e c i) row h))
 
 half_serves : (s : Copies) (row : List ℕ) → Serves (λ t. half_held t row) s (half_choice s row)

@@ -1,6 +1,6 @@
 -- The laws of a tree's two families, for every degree, height and root, each by induction on the height.
 use Rattle.std.proofs.Common.{◌≡◌, ℕ, zero, suc, ◌+◌, ◌-◌, ◌*◌, ◌<◌, ◌≤◌, Bool, true, false, not, ◌&&◌, ◌||◌, T, leb, List, [], ◌∷◌, refl, ap, ◌∙◌, mul_assoc, add-mul, mul-le-mul_left, one-mul, mul-suc, arith}
-use Rattle.std.specs.List.{range_with_len, AllByRecursion as All}
+use Rattle.std.specs.List.{range_with_len, AllByRecursion}
 use Rattle.families.specs.Copies.{Copies}
 use Rattle.families.specs.Trees.{children, holds, joined, last_copy, most}
 use Rattle.families.specs.declared.Quorum.{Quorum}
@@ -62,11 +62,11 @@ module _ (d c : ℕ) (from_one : 0 < c) where
   abbrev pub IsChild : ℕ → Type 0
   IsChild x = (0 < x) × (x ≤ (2 * d + 1) * c + 1)
 
-  run_in : (a n : ℕ) → 0 < a → a + n ≤ (2 * d + 1) * c + 2 → All IsChild (range_with_len a n)
+  run_in : (a n : ℕ) → 0 < a → a + n ≤ (2 * d + 1) * c + 2 → AllByRecursion IsChild (range_with_len a n)
   run_in a zero p l = tt
   run_in a (suc n) p l = ((p, omega arith), run_in (a + 1) n (omega arith) (omega arith))
 
-  pub children_in : All IsChild (children d c)
+  pub children_in : AllByRecursion IsChild (children d c)
   children_in =
       let g : (2 * d + 1) * c ≡ (2 * d + 1) * (c - 1) + (2 * d + 1) =
       let e : c ≡ suc (c - 1) = omega arith in
@@ -74,7 +74,7 @@ module _ (d c : ℕ) (from_one : 0 < c) where
       in
       run_in ((2 * d + 1) * (c - 1) + 2) (2 * d + 1) (omega arith) (omega arith)
 
-pub all_map : {P Q : ℕ → Type 0} → ((x : ℕ) → P x → Q x) → (row : List ℕ) → All P row → All Q row
+pub all_map : {P Q : ℕ → Type 0} → ((x : ℕ) → P x → Q x) → (row : List ℕ) → AllByRecursion P row → AllByRecursion Q row
 all_map f [] h = tt
 all_map f (x ∷ row) h = (f x h.0, all_map f row h.1)
 
@@ -83,7 +83,7 @@ pub holds_same : (q : Quorum) (d h : ℕ) (s t : Copies) (c : ℕ) → 0 < c →
 holds_same q d zero s t c p e = e c p (omega arith)
 holds_same q d (suc h) s t c p e =
     let root : s c ≡ t c = e c p (at_most_last d (suc h) c) in
-    let row : All (λ x. holds q d h s x ≡ holds q d h t x) (children d c) =
+    let row : AllByRecursion (λ x. holds q d h s x ≡ holds q d h t x) (children d c) =
     all_map (λ x i. holds_same q d h s t x i.0 (λ y l k. e y l (omega (arith, last_grows d h x ((2 * d + 1) * c + 1) i.1))))
     (children d c) (children_in d c p) in
     ap (λ b. joined q b (most d (holds q d h s) c)) root

@@ -1,6 +1,6 @@
 -- Subtrees whose copies all have marks.
 use Rattle.std.proofs.Common.{◌≡◌, ℕ, zero, suc, ◌+◌, ◌-◌, ◌*◌, ◌<◌, ◌≤◌, not, filter, ap, ◌∙◌, mul-suc, arith}
-use Rattle.std.specs.List.{range_with_len, AllByRecursion as All}
+use Rattle.std.specs.List.{range_with_len, AllByRecursion}
 use Rattle.std.proofs.ByRecursion.{All-append, all_kept_by}
 use Rattle.families.proofs.TreeFamilies.{at_most_last, last_grows}
 use Rattle.families.specs.Copies.{Copies}
@@ -23,11 +23,11 @@ module _ (d h h' c : ℕ) (e : h ≡ suc h') (f : Fits d h c) where
             omega (arith, last_grows d h' x ((2 * d + 1) * c + 1) l);
       }
 
-  run_fits : (a n : ℕ) → 0 < a → a + n ≤ (2 * d + 1) * c + 2 → All (Fits d h') (range_with_len a n)
+  run_fits : (a n : ℕ) → 0 < a → a + n ≤ (2 * d + 1) * c + 2 → AllByRecursion (Fits d h') (range_with_len a n)
   run_fits a zero p l = tt
   run_fits a (suc n) p l = (child_fits a p (omega arith), run_fits (a + 1) n (omega arith) (omega arith))
 
-  pub children_fit : All (Fits d h') (children d c)
+  pub children_fit : AllByRecursion (Fits d h') (children d c)
   children_fit =
       let p : 0 < c = f.from_one in
       let g : (2 * d + 1) * c ≡ (2 * d + 1) * (c - 1) + (2 * d + 1) =
@@ -36,7 +36,7 @@ module _ (d h h' c : ℕ) (e : h ≡ suc h') (f : Fits d h c) where
       in
       run_fits ((2 * d + 1) * (c - 1) + 2) (2 * d + 1) (omega arith) (omega arith)
 
-  pub near_first_fits : (s : Copies) → All (Fits d h') (near_first s (children d c))
+  pub near_first_fits : (s : Copies) → AllByRecursion (Fits d h') (near_first s (children d c))
   near_first_fits s =
       All-append (Fits d h') (filter s (children d c)) (filter (λ x. not (s x)) (children d c))
       (all_kept_by s (Fits d h') (children d c) children_fit)

@@ -1,13 +1,13 @@
 -- Votes that are handed over.
 use Rattle.std.specs.Prelude.{◌≡◌, ℕ, ◌<◌, ◌≤◌, ◌⊎◌, List, length}
 use Rattle.families.specs.Votes.{Allowed}
-use Rattle.std.specs.List.{AllByRecursion as All}
+use Rattle.std.specs.List.{AllByRecursion}
 use Rattle.quorum.specs.declared.fault.RuleFault.{RuleFault}
 use Rattle.quorum.specs.declared.fault.RuleFault.TheVariants.{EvenLevel, Length, NoReadQuorum, NoWriteQuorum, VotesNotAllowed}
 
 -- no copy has more than 255 votes
 abbrev pub Small : List ℕ → Type 0
-Small votes = All (λ v. v ≤ 255) votes
+Small votes = AllByRecursion (λ v. v ≤ 255) votes
 
 -- why there is no rule of these votes and this write threshold
 abbrev pub NoVotesRule : List ℕ → ℕ → RuleFault → Type 0

@@ -4,7 +4,7 @@ ghost use Rattle.families.specs.Trees.{children, choice, gather, near_first, tre
 ghost use Rattle.quorum.specs.Choosing.{Chooses};
 ghost use Rattle.quorum.specs.Rows.{Fits};
 ghost use Rattle.quorum.specs.Sets.{Is, members};
-ghost use Rattle.std.specs.List.{AllByRecursion as All};
+ghost use Rattle.std.specs.List.{AllByRecursion};
 ghost use Rattle.quorum.specs.RuleLaws.{tree_keeps};
 
 use super::copy_set::CopySet;
@@ -106,7 +106,7 @@ fn choose_in_row(
     row: &[usize],
 ) -> Option<CopySet>
     requires small { half ≤ 4 }
-    requires fits { All (Fits half height) row.now }
+    requires fits { AllByRecursion (Fits half height) row.now }
     ensures { Is result (gather (choice quorum half height (members reach.now)) (suc half) row.now) }
 {
     let mut chosen = CopySet::empty();
