@@ -15,9 +15,9 @@ use Rattle.values.specs.declared.value.Payloads.{Payloads}
 use Rattle.parts.proofs.Same.{bounded_same, component_same}
 
 -- a coding that tells values apart gives back the value that was coded
-pub gives_back : {V : Type 0} (coded : V → Payloads) → ((v w : V) → coded v ≡ coded w → v ≡ w) → (v : V) (r : Result V ValueFault) → Uncodes coded (coded v) r → r ≡ Ok v
-gives_back coded apart v (Ok w) h = ap Ok (sym (apart v w h))
-gives_back coded apart v (Err f) h = absurd (h.0 v refl)
+pub gives_back_lem : {V : Type 0} (coded : V → Payloads) → ((v w : V) → coded v ≡ coded w → v ≡ w) → (v : V) (r : Result V ValueFault) → Uncodes coded (coded v) r → r ≡ Ok v
+gives_back_lem coded apart v (Ok w) h = ap Ok (sym (apart v w h))
+gives_back_lem coded apart v (Err f) h = absurd (h.0 v refl)
 
 payload_apart : (y z : ℤ) → component_in y ≡ true → component_in z ≡ true → component_payload y ≡ component_payload z → y ≡ z
 payload_apart y z p q e = grind (arith, ints)

@@ -3,7 +3,7 @@ ghost use Rattle.values.specs.Baselines.{baseline_out, blank_baseline, coded_bas
 ghost use Rattle.std.specs.Prelude.{Some};
 ghost use Rattle.values.specs.Making.{Made};
 ghost use Rattle.values.specs.Texts.{baseline_text};
-ghost use Rattle.values.specs.Codings.{baseline_apart, gives_back};
+ghost use Rattle.values.specs.Codings.{baseline_apart, gives_back_lem};
 ghost use Rattle.std.proofs.Common.{rules};
 
 use super::fault::{Part, ValueFault};
@@ -56,7 +56,7 @@ impl Value for Baseline {
 
     ghost in_limits = { Prim.search rules };
 
-    ghost gives_back = { gives_back coded_baseline baseline_apart };
+    ghost gives_back = { gives_back_lem coded_baseline baseline_apart };
 
     ghost own_payloads = { Prim.search rules };
 

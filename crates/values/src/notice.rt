@@ -4,7 +4,7 @@ ghost use Rattle.values.specs.Making.{Made};
 ghost use Rattle.values.specs.Notices.{coded_notice, in_service_out, IsInService, IsWithdrawn, withdrawn_out};
 ghost use Rattle.values.specs.Texts.{notice_text};
 ghost use Rattle.values.specs.declared.notice.Notice.TheVariants.{NoneInService};
-ghost use Rattle.values.specs.Codings.{gives_back, notice_apart};
+ghost use Rattle.values.specs.Codings.{gives_back_lem, notice_apart};
 ghost use Rattle.std.proofs.Common.{rules};
 
 use super::fault::{Part, ValueFault};
@@ -78,7 +78,7 @@ impl Value for Notice {
 
     ghost in_limits = { Prim.search rules };
 
-    ghost gives_back = { gives_back coded_notice notice_apart };
+    ghost gives_back = { gives_back_lem coded_notice notice_apart };
 
     ghost own_payloads = { Prim.search rules };
 
