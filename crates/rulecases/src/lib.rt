@@ -1,5 +1,5 @@
-//! Cases that are run: scripts that set up a rule, and calls that choose.
+//! Cases that are run: scripts that may set up a rule, and calls that choose.
 #![tactic(auto)]
 
 #[cfg(test)]
-mod rules_run;
+mod scripts_run;
