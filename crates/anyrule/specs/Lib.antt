@@ -1,3 +1,3 @@
 pub mod Making
 pub mod Meanings
-pub mod AnyRuleRuleLemmas
+pub mod Lawfulness

@@ -1,9 +1,10 @@
 -- Which rule is made of what is asked for.
-use Rattle.std.specs.Prelude.{◌≡◌, false, take, Ok, Err, vec_items, Result}
+use Rattle.std.specs.Prelude.{◌≡◌, false, Ok, Err, vec_items, Result}
 use Rattle.faults.specs.Line.{Line}
 use Rattle.quorum.specs.Faults.{rule_line}
 use Rattle.quorum.specs.Faults.{tree_line}
 use Rattle.quorum.specs.Shapes.{allowed_tree}
+use Rattle.quorum.specs.VoteLists.{votes_in}
 use Rattle.quorum.specs.Voting.{NoVotesRule}
 use Rattle.quorum.specs.declared.fault.TreeFault.TheVariants.{NotAllowed}
 use Rattle.anyrule.specs.declared.AnyRule.{AnyRule}
@@ -23,7 +24,7 @@ HasForm (form.Levels b h) (any.Levels r) = (r.tree.degree ≡ b) × (r.tree.heig
 HasForm (form.Levels b h) (any.Votes r) = ⊥
 HasForm (form.Votes w vs) (any.Tree r) = ⊥
 HasForm (form.Votes w vs) (any.Levels r) = ⊥
-HasForm (form.Votes w vs) (any.Votes r) = (take r.count r.votes ≡ vec_items vs) × (r.threshold ≡ w)
+HasForm (form.Votes w vs) (any.Votes r) = (votes_in r.votes ≡ vec_items vs) × (r.threshold ≡ w)
 
 abbrev pub form_line : FormFault → Line
 form_line (fault.Tree f) = tree_line f

@@ -7,8 +7,9 @@ ghost use Rattle.anyrule.specs.declared.FormFault.TheVariants as fault;
 ghost use Rattle.faults.specs.Line.{refusal_text, told};
 ghost use Rattle.std.specs.Prelude.{◌≡◌, Some};
 ghost use Rattle.std.proofs.Common.{rules};
-ghost use Rattle.anyrule.specs.AnyRuleRuleLemmas.{keeps};
+ghost use Rattle.anyrule.specs.Lawfulness.{keeps};
 
+use families::Quorum;
 use faults::{Fault, Refusal};
 use quorum::fault::{RuleFault, TreeFault};
 use quorum::level_rule::LevelRule;
@@ -18,7 +19,7 @@ use quorum::tree_rule::TreeRule;
 use quorum::votes_rule::VotesRule;
 use std::fmt;
 
-/// One of the three rules.
+/// One of the three rules. Each of its calls is the rule's own.
 #[derive(Clone, Copy, PartialEq, Eq, Debug)]
 pub enum AnyRule {
     Tree(TreeRule),
@@ -80,7 +81,7 @@ impl From<RuleFault> for FormFault {
 }
 
 impl AnyRule {
-    /// The rule that is asked for, or why there is none.
+    /// The rule that is asked for, or why there is none. A form is no value that becomes a rule, but says which to build.
     pub fn new(form: &RuleForm) -> Result<AnyRule, FormFault>
         ensures { Makes form.now result }
     {
@@ -113,19 +114,11 @@ impl Rule for AnyRule {
         }
     }
 
-    fn choose_read(&self, reach: &[u8], choice: &mut [u8]) -> Result<Chosen, RuleFault> {
+    fn choose(&self, quorum: Quorum, reach: &[u8], choice: &mut [u8]) -> Result<Chosen, RuleFault> {
         match self {
-            AnyRule::Tree(rule) => rule.choose_read(reach, choice),
-            AnyRule::Levels(rule) => rule.choose_read(reach, choice),
-            AnyRule::Votes(rule) => rule.choose_read(reach, choice),
-        }
-    }
-
-    fn choose_write(&self, reach: &[u8], choice: &mut [u8]) -> Result<Chosen, RuleFault> {
-        match self {
-            AnyRule::Tree(rule) => rule.choose_write(reach, choice),
-            AnyRule::Levels(rule) => rule.choose_write(reach, choice),
-            AnyRule::Votes(rule) => rule.choose_write(reach, choice),
+            AnyRule::Tree(rule) => rule.choose(quorum, reach, choice),
+            AnyRule::Levels(rule) => rule.choose(quorum, reach, choice),
+            AnyRule::Votes(rule) => rule.choose(quorum, reach, choice),
         }
     }
 }

@@ -4,6 +4,8 @@ use banks::fault::BankFault;
 use banks::record::{Record, Sizes};
 use closing::Closing;
 use faults::{Fault, Layer, Refusal};
+use imagebank::ImageBank;
+use pile::{AnyBank, OneOf, Pile};
 use placement::Placement;
 use std::alloc::Global;
 use std::process::Abort;
@@ -12,12 +14,6 @@ use tablebank::TableBank;
 use values::baseline::Baseline;
 use values::notice::Notice;
 use values::value::{Payloads, Value};
-
-const NONE: Sizes = Sizes {
-    kind: 0,
-    stations: 0,
-    entries: 0,
-};
 
 fn record(number: u32, first: u32, second: u32, third: u32, fourth: u32) -> Record {
     Record {
@@ -36,15 +32,19 @@ fn own(station: u32, entry: u32) -> Record {
     record(station, entry, station, entry, 7)
 }
 
-/// A bank of notices with three stations and two entries, each with a record of its own.
-fn three(heap: Global) -> Result<TableBank, Fail> {
-    let mut bank = TableBank::new::<Notice>(heap, 3, 2)?;
+/// The bank of three stations and two entries, each with a record of its own.
+fn filled<B: Bank + Drop>(mut bank: B) -> Result<B, Fail> {
     for station in 1..4 {
         for entry in 1..3 {
             bank.store(station, entry, own(station, entry))?;
         }
     }
     Ok(bank)
+}
+
+/// A bank of notices with three stations and two entries, each with a record of its own.
+fn three(heap: Global) -> Result<TableBank, Fail> {
+    filled(TableBank::new::<Notice>(heap, 3, 2)?)
 }
 
 /// The station has the records that this station of `three` had at first.
@@ -93,7 +93,7 @@ fn check_shut<B: Bank>(rt: &impl Abort, bank: &mut B, station: u32) -> Result<()
 
 /// The bank is empty.
 fn check_empty<B: Bank>(rt: &impl Abort, bank: &mut B) -> Result<(), Fail> {
-    assert_eq!(rt; bank.sizes(), NONE);
+    assert_eq!(rt; bank.sizes(), Sizes::default());
     assert_eq!(rt; bank.fetch(1, 1), Err(BankFault::NoStation(1)));
     assert_eq!(rt; bank.set_reach(1, true), Err(BankFault::NoStation(1)));
     Ok(())
@@ -359,4 +359,43 @@ fn pile_closed_in_the_middle(rt: HostRuntime) -> Result<(), Fail> {
     check_shut(&rt, &mut bank, 1)?;
     check_comes_back(&rt, &mut bank, 2, 1)?;
     check_comes_back(&rt, &mut bank, 3, 2)
+}
+
+/// A table bank or an image bank, as `three` is.
+fn any(heap: Global, table: bool) -> Result<AnyBank, Fail> {
+    Ok(if table {
+        OneOf::First(three(heap)?)
+    } else {
+        OneOf::Second(filled(ImageBank::new::<Notice>(heap, 3, 2)?)?)
+    })
+}
+
+/// The bank, turned or not, with station 2 shut or not.
+fn pile(heap: Global, bank: AnyBank, turn: bool, shut: bool) -> Result<Pile, Fail> {
+    let bank = if turn {
+        OneOf::Second(turned(heap, bank)?)
+    } else {
+        OneOf::First(bank)
+    };
+    Ok(if shut {
+        OneOf::Second(without_two(heap, bank)?)
+    } else {
+        OneOf::First(bank)
+    })
+}
+
+#[test]
+fn piles_are_settled_while_the_program_runs(rt: HostRuntime) -> Result<(), Fail> {
+    let heap = rt.alloc();
+    for table in [true, false] {
+        for (turn, second, third) in [(false, 2, 3), (true, 3, 1)] {
+            let mut open = pile(heap, any(heap, table)?, turn, false)?;
+            check_comes_back(&rt, &mut open, 2, second)?;
+            check_comes_back(&rt, &mut open, 3, third)?;
+            let mut closed = pile(heap, any(heap, table)?, turn, true)?;
+            check_shut(&rt, &mut closed, 2)?;
+            check_comes_back(&rt, &mut closed, 3, third)?;
+        }
+    }
+    Ok(())
 }

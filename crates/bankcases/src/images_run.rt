@@ -19,11 +19,9 @@ fn flipped(
     place: usize,
     bits: u32,
 ) -> Result<Vec<u32>, Fail> {
-    let mut copy = Vec::new(heap);
-    for (i, word) in words.iter().enumerate() {
-        if i < count {
-            copy.push(if i == place { *word ^ bits } else { *word })?;
-        }
+    let mut copy = words[..count.min(words.len())].to_vec(heap)?;
+    if let Some(word) = copy.get_mut(place) {
+        *word ^= bits;
     }
     Ok(copy)
 }
@@ -145,14 +143,7 @@ fn words_that_are_refused_leave_an_empty_bank(rt: HostRuntime) -> Result<(), Fai
     let bank = ImageBank::from_words(words);
     assert_eq!(rt; bank.refusal(), Some(BankFault::Length(7)));
     assert_eq!(rt; bank.words().len(), 0);
-    assert_eq!(rt;
-        bank.sizes(),
-        Sizes {
-            kind: 0,
-            stations: 0,
-            entries: 0,
-        }
-    );
+    assert_eq!(rt; bank.sizes(), Sizes::default());
     assert_eq!(rt; bank.fetch(1, 1), Err(BankFault::NoStation(1)));
     let none = ImageBank::new::<Notice>(rt.alloc(), 65, 1)?;
     assert_eq!(rt; none.refusal(), Some(BankFault::Sizes));

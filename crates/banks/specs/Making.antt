@@ -1,13 +1,14 @@
 -- What making a bank answers.
-use Rattle.std.specs.Prelude.{◌≡◌, ℕ, true, false, cond, not, ◌&&◌, Some, None, Option, ◌==◌}
+use Rattle.std.specs.Prelude.{◌≡◌, ℕ, true, false, cond, not, ◌&&◌, [], ◌∷◌, Some, None, Ok, Err, Option, Result, ◌==◌}
 use Rattle.values.specs.Coding.{payloads}
 use Rattle.values.specs.declared.value.Payloads.{Payloads}
-use Rattle.banks.specs.Calls.{Cause}
+use Rattle.banks.specs.Calls.{Cause, first}
 use Rattle.banks.specs.Limits.{allowed, between, first_record}
 use Rattle.banks.specs.Meaning.{Meaning, Station}
 use Rattle.banks.specs.declared.fault.BankFault.{BankFault}
-use Rattle.banks.specs.declared.fault.BankFault.TheVariants.{Length, Sizes}
+use Rattle.banks.specs.declared.fault.BankFault.TheVariants as fault
 use Rattle.banks.specs.declared.record.Record.{Record}
+use Rattle.banks.specs.declared.record.Sizes.{Sizes}
 
 -- what stands for a record where there is none
 abbrev pub no_record : Record
@@ -30,12 +31,16 @@ new_bank kind blank n m = record {
   cell = λ s e. cond (between 1 n s && between 1 m e) (first_record blank) no_record;
 }
 
+-- the sizes of a bank, or the refusal where they or the kind are not allowed
+abbrev pub sizes_for : ℕ → ℕ → ℕ → Result Sizes BankFault
+sizes_for kind n m = cond (allowed kind n m) (Ok (record { kind = kind; stations = n; entries = m })) (Err fault.Sizes)
+
 -- a new bank where kind and sizes are allowed, else an empty one that tells the refusal
 abbrev pub NewBank : ℕ → Payloads → ℕ → ℕ → Meaning → Option BankFault → Type 0
 NewBank kind blank n m b refusal =
     cond (allowed kind n m)
     ((b ≡ new_bank kind blank n m) × (refusal ≡ None))
-    ((b ≡ empty_bank) × (refusal ≡ Some Sizes))
+    ((b ≡ empty_bank) × (refusal ≡ Some fault.Sizes))
 
 -- a refused making leaves an empty bank
 abbrev pub settled : Option BankFault → Meaning → Meaning
@@ -44,8 +49,12 @@ settled (Some f) b = empty_bank
 
 -- the bank below a layer is empty
 abbrev pub nothing_below : Meaning → Cause
-nothing_below b = record { met = not (allowed b.kind b.n b.m); told = Sizes }
+nothing_below b = record { met = not (allowed b.kind b.n b.m); told = fault.Sizes }
 
 -- a list that has not a member for each station of the bank below
 abbrev pub ill_fitting : ℕ → Meaning → Cause
-ill_fitting length b = record { met = not (length == b.n); told = Length b.n }
+ill_fitting length b = record { met = not (length == b.n); told = fault.Length b.n }
+
+-- why there is no layer with a list of this length over the bank below
+abbrev pub layer_fault : ℕ → Meaning → Option BankFault
+layer_fault length b = first (nothing_below b ∷ (ill_fitting length b ∷ []))

@@ -1,5 +1,6 @@
 //! What every bank gives.
-ghost use Rattle.banks.specs.Calls.{asked_reach, fetched, reach_answer, reach_set, sizes_of, store_answer, stored};
+ghost use Rattle.banks.specs.Calls.{answered, asked_reach, fetched, reach_answer, reach_set, sizes_of, store_answer, stored};
+ghost use Rattle.banks.specs.Making.{layer_fault, settled};
 ghost use Rattle.banks.specs.Meaning.{Lawful, Meaning};
 ghost use Rattle.std.specs.Prelude.{◌≡◌};
 
@@ -7,7 +8,8 @@ use super::fault::BankFault;
 use super::record::{Record, Sizes};
 
 /// A bank of stations. Its meaning says its kind and sizes, how each station stands, and which record each station keeps
-/// for each entry; every bank's meaning keeps the laws.
+/// for each entry; every bank's meaning keeps the laws. A bank whose making was refused is a bank without stations, which
+/// tells why by a `refusal` of its own.
 pub trait Bank {
     ghost meaning: { Self → Meaning };
 
@@ -34,4 +36,28 @@ pub trait Bank {
         ensures after { meaning self.new ≡ reach_set (meaning self.old) station reach };
 
     ghost lawful: { (b : Self) → Lawful (meaning b) };
+}
+
+/// Refuses a layer over an empty bank, and one whose list has not a member for each station of the bank below.
+pub fn check_layer<B: Bank>(below: &B, members: usize) -> Result<(), BankFault>
+    ensures { result ≡ answered (layer_fault members (B.Bank.meaning below.now)) tt }
+{
+    let sizes = below.sizes();
+    if !sizes.allowed() {
+        Err(BankFault::Sizes)
+    } else if members != sizes.stations as usize {
+        Err(BankFault::Length(sizes.stations))
+    } else {
+        Ok(())
+    }
+}
+
+/// The sizes of a layer: those of the bank below, or none where the layer was refused.
+pub fn layer_sizes<B: Bank>(below: &B, refusal: Option<BankFault>) -> Sizes
+    ensures { result ≡ sizes_of (settled refusal (B.Bank.meaning below.now)) }
+{
+    match refusal {
+        None => below.sizes(),
+        Some(_) => Sizes::default(),
+    }
 }

@@ -1,5 +1,5 @@
 //! Numbers that are read and shown.
-use numbers::tenths::Tenths;
+use numbers::tenths::{NotTenths, Tenths};
 use numbers::whole::read_whole;
 use std::test::Fail;
 
@@ -19,7 +19,7 @@ fn tenths_are_read(rt: HostRuntime) {
         ("-214748364.8", i32::MIN),
     ];
     for (text, tenths) in good {
-        assert_eq!(rt; Tenths::read(text), Some(Tenths(tenths)), "{}", text);
+        assert_eq!(rt; text.parse::<Tenths>(), Ok(Tenths(tenths)), "{}", text);
     }
 }
 
@@ -47,7 +47,7 @@ fn other_texts_are_no_tenths(rt: HostRuntime) {
         "99999999999999999999",
     ];
     for text in bad {
-        assert_eq!(rt; Tenths::read(text), None, "{}", text);
+        assert_eq!(rt; text.parse::<Tenths>(), Err(NotTenths), "{}", text);
     }
 }
 
@@ -64,7 +64,7 @@ fn tenths_are_shown(rt: HostRuntime) -> Result<(), Fail> {
     for (tenths, text) in shown {
         let written = Tenths(tenths).to_string(rt.alloc())?;
         assert_eq!(rt; written.as_str(), text);
-        assert_eq!(rt; Tenths::read(text), Some(Tenths(tenths)), "{}", text);
+        assert_eq!(rt; text.parse::<Tenths>(), Ok(Tenths(tenths)), "{}", text);
     }
     Ok(())
 }

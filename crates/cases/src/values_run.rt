@@ -159,9 +159,7 @@ fn payloads_of_no_notice(rt: HostRuntime) {
 #[test]
 fn kinds_have_their_numbers(rt: HostRuntime) {
     assert_eq!(rt; Baseline::KIND, 1);
-    assert_eq!(rt; Baseline::kind_number(), 1);
     assert_eq!(rt; Notice::KIND, 2);
-    assert_eq!(rt; Notice::kind_number(), 2);
 }
 
 #[test]

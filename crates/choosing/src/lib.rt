@@ -1,9 +1,10 @@
 //! What a rule chooses when some copies are away, by the numbers of the copies.
 #![tactic(auto)]
 
-ghost use Rattle.std.specs.Prelude.{◌≡◌, ◌≤◌, length, take, IfOk, Some, None, MatchResult};
+ghost use Rattle.std.specs.Prelude.{◌≡◌, ◌≤◌, cond, not, length, IfOk, Some};
+ghost use Rattle.families.specs.Copies.{among};
+ghost use Rattle.quorum.specs.Choosing.{Fitting};
 ghost use Rattle.choosing.specs.Numbers.{Choice, Numbered, named, no_choice_text, no_copy, reach_without};
-ghost use Rattle.quorum.specs.Choosing.{Chooses, Fitting};
 
 use families::Quorum;
 use quorum::fault::RuleFault;
@@ -31,20 +32,26 @@ impl fmt::Display for NoChoice {
     }
 }
 
-/// The reach marks of `n` copies with these away, and the rest of the array.
-fn reach_without(n: u32, away: &[u32]) -> Result<[u8; 64], u32>
-    requires { n ≤ 64 }
-    ensures { MatchResult result (λ marks. (no_copy n away.now ≡ None) × (take n marks ≡ reach_without n away.now)) (λ c. no_copy n away.now ≡ Some c) }
+/// The first of these numbers that is none of the `n` copies.
+fn no_copy(n: u32, numbers: &[u32]) -> Option<u32>
+    ensures { result ≡ no_copy n numbers.now }
 {
-    let mut reach = [1; 64];
-    for copy in away {
-        let copy = *copy;
-        if copy == 0 || copy > n {
-            return Err(copy);
-        }
-        reach[(copy - 1) as usize] = 0;
-    }
-    Ok(reach)
+    numbers.iter().copied().find(|copy| *copy == 0 || *copy > n)
+}
+
+/// The reach mark of a copy: 0 if it is one of those away.
+fn reach_mark(away: &[u32], copy: u32) -> u8
+    ensures { result ≡ cond (not (among away.now copy)) 1 0 }
+{
+    u8::from(!away.contains(&copy))
+}
+
+/// The reach marks of `n` copies with these away.
+fn reach_without(heap: Global, n: u32, away: &[u32]) -> Result<Vec<u8>, AllocError>
+    requires { n ≤ 64 }
+    ensures { IfOk result (λ marks. marks.items ≡ reach_without n away.now) }
+{
+    (1..n + 1).map(|copy| reach_mark(away, copy)).collect(heap)
 }
 
 /// The numbers of the copies whose marks are not 0.
@@ -52,28 +59,11 @@ fn numbers_of(heap: Global, choice: &[u8]) -> Result<Vec<u32>, AllocError>
     requires { length choice.now ≤ 64 }
     ensures { IfOk result (λ v. v.items ≡ named (length choice.now) choice.now) }
 {
-    let mut copies = Vec::new(heap);
-    for (i, mark) in choice.iter().enumerate() {
-        if *mark != 0 {
-            copies.push(i as u32 + 1)?;
-        }
-    }
-    Ok(copies)
-}
-
-/// Asks the rule for a choice of this sort.
-fn ask<R: Rule>(
-    rule: &R,
-    quorum: Quorum,
-    reach: &[u8],
-    choice: &mut [u8],
-) -> Result<Chosen, RuleFault>
-    ensures { Chooses (R.Rule.meaning rule.now) quorum reach.now choice.old choice.new result }
-{
-    match quorum {
-        Quorum::Read => rule.choose_read(reach, choice),
-        Quorum::Write => rule.choose_write(reach, choice),
-    }
+    (1..65)
+        .zip(choice)
+        .filter(|(_, mark)| **mark != 0)
+        .map(|(copy, _)| copy)
+        .collect(heap)
 }
 
 /// The copies chosen from this reach, by number. The choice marks are there to be filled.
@@ -87,13 +77,14 @@ fn choose_numbers<R: Rule>(
     requires { Fitting (R.Rule.meaning rule.now) reach.now choice.old }
     ensures { IfOk result (λ x. Numbered (R.Rule.meaning rule.now) quorum reach.now x) }
 {
-    match ask(rule, quorum, reach, choice) {
+    match rule.choose(quorum, reach, choice) {
         Ok(Chosen) => Ok(Ok(numbers_of(heap, choice)?)),
         Err(fault) => Ok(Err(NoChoice::Refused(fault))),
     }
 }
 
-/// The copies that the rule chooses, by number, when these copies are away and all others in reach.
+/// The copies that the rule chooses, by number, when these copies are away and all others in reach. Want of memory is
+/// no answer of the rule.
 pub fn choose_without<R: Rule>(
     heap: Global,
     rule: &R,
@@ -103,12 +94,10 @@ pub fn choose_without<R: Rule>(
     ensures { IfOk result (λ x. Choice (R.Rule.meaning rule.now) quorum away.now x) }
 {
     let n = rule.copies();
-    match reach_without(n, away) {
-        Ok(reach) => {
-            let len = n as usize;
-            let mut choice = [0; 64];
-            choose_numbers(heap, rule, quorum, &reach[0..len], &mut choice[0..len])
-        }
-        Err(copy) => Ok(Err(NoChoice::NoCopy(copy))),
+    if let Some(copy) = no_copy(n, away) {
+        return Ok(Err(NoChoice::NoCopy(copy)));
     }
+    let reach = reach_without(heap, n, away)?;
+    let mut choice = vec![in heap; 0; n as usize]?;
+    choose_numbers(heap, rule, quorum, &reach, &mut choice)
 }

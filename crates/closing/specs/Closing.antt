@@ -1,7 +1,6 @@
 -- What a bank means some of whose stations are shut.
-use Rattle.std.specs.Prelude.{ℕ, ◌-◌, Bool, true, false, cond, not, ◌&&◌, List, [], ◌∷◌, length, Option, ◌==◌, nat_le, slice_index}
-use Rattle.banks.specs.Calls.{first}
-use Rattle.banks.specs.Making.{ill_fitting, nothing_below, settled}
+use Rattle.std.specs.Prelude.{ℕ, ◌-◌, Bool, true, false, cond, not, ◌&&◌, List, length, Option, ◌==◌, nat_le, slice_index}
+use Rattle.banks.specs.Making.{layer_fault, settled}
 use Rattle.banks.specs.Meaning.{Meaning, Station}
 use Rattle.banks.specs.declared.fault.BankFault.{BankFault}
 
@@ -24,7 +23,7 @@ closed marks b = record {
 
 -- why there is no such bank
 abbrev pub closing_fault : List ℕ → Meaning → Option BankFault
-closing_fault marks b = first (nothing_below b ∷ (ill_fitting (length marks) b ∷ []))
+closing_fault marks b = layer_fault (length marks) b
 
 abbrev pub closing : List ℕ → Meaning → Meaning
 closing marks b = settled (closing_fault marks b) (closed marks b)

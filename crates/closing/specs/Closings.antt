@@ -34,6 +34,14 @@ module _ (marks : List ℕ) (b : Meaning) (s : ℕ) (here : between 1 (closing m
       ∙ altered_closed marks o b x
       ∙ ap (λ c. altered o c (closed marks x)) (sym as_closed)
 
+  open_either : (c : Bool) → (cond c shut_station (b.station s)).reach ≡ true → c ≡ false
+  open_either true e = absurd (cc)
+  open_either false e = refl
+
+  -- a station in reach is not shut
+  pub open_here : ((closing marks b).station s).reach ≡ true → is_shut marks s ≡ false
+  open_here e = open_either (is_shut marks s) (ap (λ c. (c.station s).reach) (sym as_closed) ∙ e)
+
   module _ (unshut : is_shut marks s ≡ false) where
     same_store : (e : ℕ) (r : Record) → store_fault b s e r ≡ store_fault (closing marks b) s e r
     same_store e r = rw (as_closed, unshut) refl

@@ -5,11 +5,11 @@ ghost use Rattle.closing.specs.Closing.{closing, closing_fault, is_shut};
 ghost use Rattle.std.specs.Prelude.{◌≡◌};
 ghost use Rattle.closing.specs.Closings.{closing_lawful};
 
-use banks::bank::Bank;
+use banks::bank::{Bank, check_layer, layer_sizes};
 use banks::fault::BankFault;
 use banks::record::{Record, Sizes};
 
-/// A bank some of whose stations are shut.
+/// A bank some of whose stations are shut: those whose mark, a byte as in the lists of a rule, is not 0.
 #[derive(Drop)]
 pub struct Closing<B> {
     inner: B,
@@ -29,25 +29,18 @@ impl<B: Bank> Closing<B> {
     pub fn refusal(&self) -> Option<BankFault>
         ensures { result ≡ closing_fault self.now.marks.items (B.Bank.meaning self.now.inner) }
     {
-        let sizes = self.inner.sizes();
-        if !sizes.allowed() {
-            Some(BankFault::Sizes)
-        } else if self.marks.len() != sizes.stations as usize {
-            Some(BankFault::Length(sizes.stations))
-        } else {
-            None
-        }
+        check_layer(&self.inner, self.marks.len()).err()
     }
 
     /// Whether the station is shut.
     fn is_shut(&self, station: u32) -> bool
         ensures { result ≡ is_shut self.now.marks.items station }
     {
-        if station == 0 {
-            return false;
-        }
-        let place = station as usize - 1;
-        place < self.marks.len() && self.marks[place] != 0
+        station != 0
+            && self
+                .marks
+                .get(station as usize - 1)
+                .is_some_and(|&mark| mark != 0)
     }
 }
 
@@ -57,14 +50,7 @@ impl<B: Bank> Bank for Closing<B> {
     ghost lawful = { λ c. closing_lawful c.marks.items (B.Bank.meaning c.inner) (B.Bank.lawful c.inner) };
 
     fn sizes(&self) -> Sizes {
-        match self.refusal() {
-            None => self.inner.sizes(),
-            Some(_) => Sizes {
-                kind: 0,
-                stations: 0,
-                entries: 0,
-            },
-        }
+        layer_sizes(&self.inner, self.refusal())
     }
 
     fn in_reach(&self, station: u32) -> Result<bool, BankFault> {
@@ -76,22 +62,14 @@ impl<B: Bank> Bank for Closing<B> {
     }
 
     fn fetch(&self, station: u32, entry: u32) -> Result<Record, BankFault> {
-        let sizes = self.sizes();
-        sizes.check_station(station)?;
-        sizes.check_entry(entry)?;
-        if self.is_shut(station) {
-            return Err(BankFault::Away(station));
-        }
+        self.sizes()
+            .check_call(station, entry, self.in_reach(station))?;
         self.inner.fetch(station, entry)
     }
 
     fn store(&mut self, station: u32, entry: u32, kept: Record) -> Result<(), BankFault> {
-        let sizes = self.sizes();
-        sizes.check_station(station)?;
-        sizes.check_entry(entry)?;
-        if self.is_shut(station) {
-            return Err(BankFault::Away(station));
-        }
+        self.sizes()
+            .check_call(station, entry, self.in_reach(station))?;
         self.inner.store(station, entry, kept)
     }
 

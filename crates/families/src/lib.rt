@@ -4,13 +4,14 @@
 //! and every list of votes.
 #![tactic(auto)]
 
-ghost use Rattle.std.specs.Prelude.{◌≡◌, ℕ, ◌≤◌, List, Some};
+ghost use Rattle.std.specs.Prelude.{◌≡◌, ◌≢◌, ℕ, ◌≤◌, List, MatchResult, Some};
 ghost use Rattle.families.specs.Meaning.{Lawful, quorum_name};
 ghost use Rattle.families.specs.Levels.{levels_rule};
 ghost use Rattle.families.specs.Trees.{copies_of, tree_rule};
 ghost use Rattle.families.specs.Votes.{Allowed, votes_rule};
 
 use std::fmt;
+use std::str::FromStr;
 
 /// The two sorts of quorum.
 #[derive(Clone, Copy, PartialEq, Eq, Debug)]
@@ -26,6 +27,26 @@ impl fmt::Display for Quorum {
         match self {
             Quorum::Read => f.write_str("read"),
             Quorum::Write => f.write_str("write"),
+        }
+    }
+}
+
+/// The text names no sort of quorum.
+#[derive(Clone, Copy, PartialEq, Eq, Debug)]
+pub struct UnknownQuorum;
+
+impl FromStr for Quorum {
+    ghost use Rattle.families.specs.declared.Quorum.{Quorum};
+
+    type Err = UnknownQuorum;
+
+    ghost from_str_gives = { λ text r. MatchResult r (λ q. text ≡ quorum_name q) (λ _. (q : Quorum) → text ≢ quorum_name q) };
+
+    fn from_str(text: &str) -> Result<Quorum, UnknownQuorum> {
+        match text {
+            "read" => Ok(Quorum::Read),
+            "write" => Ok(Quorum::Write),
+            _ => Err(UnknownQuorum),
         }
     }
 }

@@ -32,7 +32,7 @@ impl fmt::Display for Layer {
     }
 }
 
-/// A refusal as it is told to the caller.
+/// A refusal as it is told to the caller: its number is the one that the list of refusals gives the cause.
 #[derive(Clone, Copy, PartialEq, Eq, Debug)]
 pub struct Refusal {
     pub number: u32,
@@ -44,14 +44,18 @@ impl fmt::Display for Refusal {
     ghost output = { λ r. Some (refusal_text r) };
 
     fn fmt<W: fmt::Write>(&self, f: &mut fmt::Formatter<W>) -> fmt::Result {
-        let number = self.number;
-        let layer = self.layer;
-        let place = self.place;
-        write!(f, "refused {number}, {layer}, place {place}")
+        write!(
+            f,
+            "refused {}, {}, place {}",
+            self.number, self.layer, self.place
+        )
     }
 }
 
 /// What a fault of any layer tells. Its line in the list of refusals is the ghost member `line`.
+///
+/// Each type of faults shows its refusal by a `Display` of its own: one for every `Fault` would be an impl of a foreign
+/// trait for foreign types.
 pub trait Fault {
     ghost line: { Self → Line };
 

@@ -1,1 +1,2 @@
 mod NewWords
+mod Writes

@@ -1,6 +1,6 @@
 -- Words that an image bank keeps are the image of what they tell.
-use Rattle.std.specs.Prelude.{◌≡◌, ℕ, suc, ◌+◌, ◌<◌, Bool, true, ◌||◌, T, List, [], ◌∷◌, length, set, Some, None, Ok, Option, ◌≢◌, slice_index, slice_set, refl}
-use Rattle.std.proofs.Common.{sym, ap, subst, ◌∙◌, arith, ne_eqb}
+use Rattle.std.specs.Prelude.{◌≡◌, ℕ, ◌+◌, ◌<◌, Bool, true, ◌||◌, List, [], ◌∷◌, length, set, None, Ok, Option, ◌≢◌, ◌==◌, slice_index, slice_set, refl}
+use Rattle.std.proofs.Common.{sym, ap, ◌∙◌, arith}
 use Rattle.banks.proofs.Makings.{empty_lawful}
 use Rattle.banks.proofs.Ranges.{from_low, to_high}
 use Rattle.banks.specs.Calls.{answered, with_cell, with_reach}
@@ -11,20 +11,19 @@ use Rattle.banks.specs.declared.record.Record.{Record}
 use Rattle.std.proofs.lemmas.Bool.Decides.{nat_tests}
 use Rattle.words.proofs.Changes.{image_reached, image_stored}
 use Rattle.words.proofs.Checks.{clear_answer, image_of_told, image_passes, told_plain}
-use Rattle.words.proofs.Images.{Plain, given_back, length_image, reach_told, record_told, word_at}
+use Rattle.words.proofs.Images.{Plain, field_read, given_back, length_image, reach_told, record_told, station_read}
 use Rattle.words.proofs.Plains.{plain_cell, plain_lawful, plain_reach}
-use Rattle.words.proofs.Spots.{field_there, record_inside, station_inside, station_there}
+use Rattle.words.proofs.Spots.{record_inside, station_inside}
 use Rattle.words.specs.Checking.{check_fault}
 use Rattle.words.specs.Format.{five, image, imaged, record_place, record_word, size, station_place, station_word, told_reach, told_record}
 use Rattle.imagebank.specs.Whole.{OfWords, is_none, whole}
 
-none_if : (o : Option BankFault) → is_none o ≡ true → o ≡ None
-none_if None e = refl
-none_if (Some f) e = absurd (subst T (sym e) tt)
-
 -- words that are there are an image
 pub passed : (w : ℕ) (ws : List ℕ) → whole (w ∷ ws) ≡ true → check_fault (w ∷ ws) ≡ None
-passed w ws h = none_if (check_fault (w ∷ ws)) (ap (λ t. t || is_none (check_fault (w ∷ ws))) (sym (ne_eqb (suc (length ws)) 0 (λ z. omega (arith, z)))) ∙ h)
+passed w ws h = none_if (w ∷ ws) (check_fault (w ∷ ws)) (omega arith) h
+  where
+    none_if : (l : List ℕ) (o : Option BankFault) → 0 < length l → (length l == 0 || is_none o) ≡ true → o ≡ None
+    none_if l o some h = grind (arith, nat_tests)
 
 pub whole_image : (ws : List ℕ) → whole ws ≡ true → ws ≡ image (imaged ws)
 whole_image [] h = refl
@@ -66,9 +65,7 @@ module _ (ws : List ℕ) (sound : whole ws ≡ true) (s : ℕ) (hs : between 1 (
 
   pub read_reach : told_reach (slice_index ws (station_place b.m s)) ≡ (b.station s).reach
   read_reach =
-      ap (λ l. told_reach (slice_index l (station_place b.m s))) is_image
-      ∙ ap told_reach (word_at b plain.sized (station_place b.m s) (station_inside b.n b.m s hs) ∙ station_there b s hs)
-      ∙ reach_told s (b.station s).reach
+      ap (λ l. told_reach (slice_index l (station_place b.m s))) is_image ∙ ap told_reach (station_read b plain.sized s hs) ∙ reach_told s (b.station s).reach
 
   pub record_in : (e f : ℕ) → between 1 b.m e ≡ true → f < 5 → record_place b.m s e + f < length ws
   record_in e f he hf = omega (arith, long, record_inside b.n b.m s hs e f he hf)
@@ -77,7 +74,7 @@ module _ (ws : List ℕ) (sound : whole ws ≡ true) (s : ℕ) (hs : between 1 (
   read_record e he =
       ap (λ l. told_record l (record_place b.m s e)) is_image
       ∙ record_told (b.cell s e) (plain.limits s e hs he) (image b) (record_place b.m s e) e
-      (λ f hf. word_at b plain.sized (record_place b.m s e + f) (record_inside b.n b.m s hs e f he hf) ∙ field_there b s hs e f he hf)
+      (λ f hf. field_read b plain.sized s e f hs he hf)
 
   -- the words after a change
   pub after_reach : (v : Bool) → (whole (slice_set ws (station_place b.m s) (station_word s v)) ≡ true) × (imaged (slice_set ws (station_place b.m s) (station_word s v)) ≡ with_reach b s v)

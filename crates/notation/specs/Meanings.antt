@@ -130,9 +130,6 @@ baseline_one ws a b h k =
     (whole_same (word 3 ws) h.day k.day h.day_is k.day_is)
     h.made k.made
 
-first : List ℕ → ℕ
-first l = slice_index l 0
-
 same_service : (s d t c : ℕ) (a b : Result Notice ValueFault) → s ≡ t → d ≡ c → Made (in_service_out s d) (IsInService s d) a → Made (in_service_out t c) (IsInService t c) b → a ≡ b
 same_service s d t c a b p q h k =
     made_unique (in_service_out t c) (IsInService t c) (in_service_unique t c) a b
@@ -144,17 +141,16 @@ same_withdrawn s d r t c q a b x y z h k =
     (transport (λ i. Made (withdrawn_out (x i) (y i) (z i)) (IsWithdrawn (x i) (y i) (z i)) a) h) k
 
 pub notice_one : (ws : List (List ℕ)) (a b : Result Notice ValueFault) → NoticeWords ws a → NoticeWords ws b → a ≡ b
-unfolding first
 notice_one ws a b (inl h) (inl k) = h.1 ∙ sym k.1
-notice_one ws a b (inl h) (inr (inl k)) = absurd (omega (arith, ap first (says_unique ws _ _ _ _ h.0 k.2).0))
-notice_one ws a b (inl h) (inr (inr k)) = absurd (omega (arith, ap first (says_unique ws _ _ _ _ h.0 k.3).0))
-notice_one ws a b (inr (inl h)) (inl k) = absurd (omega (arith, ap first (says_unique ws _ _ _ _ h.2 k.0).0))
+notice_one ws a b (inl h) (inr (inl k)) = let other = (says_unique ws _ _ _ _ h.0 k.2).0 in cc
+notice_one ws a b (inl h) (inr (inr k)) = let other = (says_unique ws _ _ _ _ h.0 k.3).0 in cc
+notice_one ws a b (inr (inl h)) (inl k) = let other = (says_unique ws _ _ _ _ h.2 k.0).0 in cc
 notice_one ws a b (inr (inl h)) (inr (inl k)) =
     let e = (says_unique ws _ _ _ _ h.2 k.2).1 in
     same_service h.0 h.1 k.0 k.1 a b (cc) (cc) h.3 k.3
-notice_one ws a b (inr (inl h)) (inr (inr k)) = absurd (omega (arith, ap first (says_unique ws _ _ _ _ h.2 k.3).0))
-notice_one ws a b (inr (inr h)) (inl k) = absurd (omega (arith, ap first (says_unique ws _ _ _ _ h.3 k.0).0))
-notice_one ws a b (inr (inr h)) (inr (inl k)) = absurd (omega (arith, ap first (says_unique ws _ _ _ _ h.3 k.2).0))
+notice_one ws a b (inr (inl h)) (inr (inr k)) = let other = (says_unique ws _ _ _ _ h.2 k.3).0 in cc
+notice_one ws a b (inr (inr h)) (inl k) = let other = (says_unique ws _ _ _ _ h.3 k.0).0 in cc
+notice_one ws a b (inr (inr h)) (inr (inl k)) = let other = (says_unique ws _ _ _ _ h.3 k.2).0 in cc
 notice_one ws a b (inr (inr h)) (inr (inr k)) =
     let e = (says_unique ws _ _ _ _ h.3 k.3).1 in
     same_withdrawn h.0 h.1 h.2 k.0 k.1 k.2 a b (cc) (cc) (cc) h.4 k.4

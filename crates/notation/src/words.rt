@@ -41,6 +41,7 @@ pub fn read_numbers<const N: usize>(words: &[&str]) -> Option<[u32; N]>
     if words.len() != N {
         return None;
     }
+    // By place, since a proof knows nothing of what is written through `iter_mut().zip(..)`.
     let mut numbers = [0; N];
     for (i, word) in words.iter().enumerate() {
         numbers[i] = read_whole(word)?;
@@ -52,6 +53,7 @@ pub fn read_numbers<const N: usize>(words: &[&str]) -> Option<[u32; N]>
 pub fn read_list(heap: Global, words: &[&str]) -> Result<Option<Vec<u32>>, AllocError>
     ensures { IfOk result (λ o. Tells (λ ws v. Wholes ws v.items) (texts words.now) o) }
 {
+    // No chain that collects, since it would have one failure for two: a word that is no number, and want of memory.
     let mut numbers = Vec::new(heap);
     for word in words {
         let Some(number) = read_whole(word) else {

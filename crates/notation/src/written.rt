@@ -18,7 +18,8 @@ use values::value::Value;
 pub trait Written: Value {
     ghost written: { List (List ℕ) → Result Self ValueFault → Type 0 };
 
-    /// What the words write; `None` where they are no value of this kind.
+    /// What the words write; `None` where they are no value of this kind. A part out of range is written, and refused: so
+    /// there are two ways to fail, and a line is bad only by the first.
     fn read(words: &[&str]) -> Option<Result<Self, ValueFault>>
         ensures { Tells written (texts words.now) result };
 
@@ -35,9 +36,9 @@ impl Written for Baseline {
         let [x, y, z, day] = words else {
             return None;
         };
-        let x = Tenths::read(x)?;
-        let y = Tenths::read(y)?;
-        let z = Tenths::read(z)?;
+        let x: Tenths = x.parse().ok()?;
+        let y: Tenths = y.parse().ok()?;
+        let z: Tenths = z.parse().ok()?;
         let day = read_whole(day)?;
         Some(Baseline::new(x, y, z, day))
     }

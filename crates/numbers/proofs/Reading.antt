@@ -1,5 +1,5 @@
 -- From what std's readers say to how numbers are written; and that a text writes one number at most.
-use Rattle.std.proofs.Common.{◌≡◌, ℕ, zero, suc, ◌+◌, ◌*◌, ◌/◌, ◌%◌, ◌^◌, ◌<◌, ◌≤◌, List, [], ◌∷◌, ◌++◌, length, get_or, ℤ, pos, negsuc, neg_ℤ, nat_abs, Some, None, Ok, Err, decimal, Option, Result, sym, refl, ap, ◌∙◌, subst, inl, inr, arith, lit≤, length-append, w32, SFits, MatchOption}
+use Rattle.std.proofs.Common.{◌≡◌, ℕ, zero, suc, ◌+◌, ◌*◌, ◌/◌, ◌%◌, ◌^◌, ◌<◌, ◌≤◌, List, [], ◌∷◌, ◌++◌, length, get_or, ℤ, pos, negsuc, neg_ℤ, nat_abs, Some, None, Ok, Err, decimal, Option, Result, sym, refl, ap, ◌∙◌, subst, inl, inr, arith, lit≤, length-append, w32, SFits, MatchOption, MatchResult}
 use native.Mathlib.Nat.{sub_self}
 use lib.Signed.{mag}
 use Rattle.std.specs.Str.Parse.{AllDigits, IsNumeral, ParsesUnsigned, digits_value}
@@ -9,6 +9,8 @@ use Rattle.std.proofs.lemmas.Fmt.{decimal_digit, decimal_is_IsNumeral}
 use Rattle.std.proofs.lemmas.List.{get_or-append_right}
 use Rattle.std.proofs.lemmas.Str.Parse.{without_leading_plus_none}
 use Rattle.numbers.specs.declared.tenths.Tenths.{Tenths}
+use Rattle.numbers.specs.Reads.{ReadsTenths}
+use Rattle.numbers.specs.declared.tenths.NotTenths.{NotTenths}
 use Rattle.numbers.specs.Written.{Size, Whole, Writes, size_text, tenths_text}
 
 abbrev pub Reads : ℕ → List ℕ → ℕ → Type 0
@@ -118,10 +120,13 @@ shown_writes (pos n) small = inl (n, shown_size n (omega arith), refl)
 shown_writes (negsuc n) small = inr (size_text (suc n), suc n, refl, shown_size (suc n) (omega arith), refl)
 
 -- so a reader of all such texts reads what is shown
-pub reads_back : (text : List ℕ) (r : Option Tenths) → MatchOption r ((z : ℤ) → SFits w32 z → Writes text z → ⊥) (λ t. Writes text t.0) → (t : Tenths) → SFits w32 t.0 → text ≡ tenths_text t.0 → r ≡ Some t
-reads_back text None h t fits e = absurd (h t.0 fits (rw e (shown_writes t.0 (omega (arith, fits.sfits)))))
-reads_back text (Some s) h t fits e =
-    ap (λ z. Some (record { 0 = z })) (writes_unique text s.0 t.0 h (rw e (shown_writes t.0 (omega (arith, fits.sfits)))))
+back_again : (text : List ℕ) (r : Result Tenths NotTenths) → MatchResult r (λ t. Writes text t.0) (λ e. (z : ℤ) → SFits w32 z → Writes text z → ⊥) → (t : Tenths) → SFits w32 t.0 → text ≡ tenths_text t.0 → r ≡ Ok t
+back_again text (Err f) h t fits e = absurd (h t.0 fits (rw e (shown_writes t.0 (omega (arith, fits.sfits)))))
+back_again text (Ok s) h t fits e =
+    ap (λ z. Ok (record { 0 = z })) (writes_unique text s.0 t.0 h (rw e (shown_writes t.0 (omega (arith, fits.sfits)))))
+
+pub reads_right : (text : List ℕ) (r : Result Tenths NotTenths) → MatchResult r (λ t. Writes text t.0) (λ e. (z : ℤ) → SFits w32 z → Writes text z → ⊥) → ReadsTenths text r
+reads_right text r h = record { reads = h; back = back_again text r h }
 
 -- a reader that has worked out the size v, and gives it where it fits
 pub sized_by : (r : Option ℕ) (text : List ℕ) (v : ℕ) → MatchOption r (v < 2 ^ 32 → ⊥) (λ n. n ≡ v) → Size text v → MatchOption r ((n : ℕ) → n < 2 ^ 32 → Size text n → ⊥) (Size text)

@@ -6,6 +6,7 @@ ghost use Rattle.std.specs.Int.{w32};
 
 use super::whole::{read_digits, read_whole};
 use std::fmt;
+use std::str::FromStr;
 
 /// A number in tenths of a unit: 201234 is written `20123.4`.
 #[derive(Clone, Copy, PartialEq, Eq, Debug)]
@@ -26,18 +27,26 @@ impl fmt::Display for Tenths {
     }
 }
 
-impl Tenths {
-    /// The number that `text` writes: a whole number, or decimal digits with a point and one decimal place, either
-    /// with or without a minus sign in front. `None` where the text is no such number, or one that does not fit.
-    /// The text that a number is shown as reads as that number.
-    pub fn read(text: &str) -> Option<Tenths>
-        ensures reads { MatchOption result ((z : ℤ) → FitsSigned w32 z → Writes text.now z → ⊥) (λ t. Writes text.now t.0) }
-        ensures back { (t : Tenths) → FitsSigned w32 t.0 → text.now ≡ tenths_text t.0 → result ≡ Some t }
-    {
-        let number = read_signed(text)?;
+/// A text that writes no number in tenths, or one that does not fit.
+#[derive(Clone, Copy, PartialEq, Eq, Debug)]
+pub struct NotTenths;
+
+/// The number that a text writes: a whole number, or decimal digits with a point and one decimal place, either with or
+/// without a minus sign in front. The text that a number is shown as reads as that number.
+impl FromStr for Tenths {
+    ghost use Rattle.numbers.specs.Reads.{ReadsTenths};
+
+    type Err = NotTenths;
+
+    ghost from_str_gives = { ReadsTenths };
+
+    fn from_str(text: &str) -> Result<Tenths, NotTenths> {
+        let Some(number) = read_signed(text) else {
+            return Err(NotTenths);
+        };
         match i32::try_from(number) {
-            Ok(tenths) => Some(Tenths(tenths)),
-            Err(_) => None,
+            Ok(tenths) => Ok(Tenths(tenths)),
+            Err(_) => Err(NotTenths),
         }
     }
 }

@@ -4,7 +4,7 @@ ghost use Rattle.numbers.specs.Written.{Whole};
 ghost use Rattle.std.specs.Str.Parse.{IsNumeral, digits_value};
 
 /// The whole number that `text` writes: decimal digits, or hexadecimal digits after `0x`. `None` where the text
-/// is no such number, or one of 2^32 or more.
+/// is no such number, or one of 2^32 or more. Parsing a `u32` reads other texts: a plus sign, and no `0x`.
 pub fn read_whole(text: &str) -> Option<u32>
     ensures { MatchOption result ((n : ℕ) → n < 2 ^ 32 → Whole text.now n → ⊥) (λ n. Whole text.now n) }
 {

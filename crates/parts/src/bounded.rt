@@ -15,17 +15,17 @@ impl<const LOW: u32, const HIGH: u32> fmt::Display for Bounded<LOW, HIGH> {
     ghost output = { λ b. Some (decimal b.number) };
 
     fn fmt<W: fmt::Write>(&self, f: &mut fmt::Formatter<W>) -> fmt::Result {
-        let number = self.number;
-        write!(f, "{number}")
+        write!(f, "{}", self.number)
     }
 }
 
 impl<const LOW: u32, const HIGH: u32> Bounded<LOW, HIGH> {
-    /// The number as one in the range; `None` where it is outside.
+    /// The number as one in the range; `None` where it is outside, as in `NonZeroU32::new`: which part of a value is wrong
+    /// the caller knows.
     pub fn new(number: u32) -> Option<Bounded<LOW, HIGH>>
         ensures { MatchOption result (LOW ≤ number → number ≤ HIGH → ⊥) (λ b. b.number ≡ number) }
     {
-        if LOW <= number && number <= HIGH {
+        if (LOW..=HIGH).contains(&number) {
             Some(Bounded { number })
         } else {
             None

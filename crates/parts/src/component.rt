@@ -17,17 +17,16 @@ impl fmt::Display for Component {
     ghost output = { λ c. Some (tenths_text c.tenths.0) };
 
     fn fmt<W: fmt::Write>(&self, f: &mut fmt::Formatter<W>) -> fmt::Result {
-        let tenths = self.tenths;
-        write!(f, "{tenths}")
+        write!(f, "{}", self.tenths)
     }
 }
 
 impl Component {
-    /// The component with these tenths; `None` where they are out of range.
+    /// The component with these tenths; `None` where they are out of range, as `Bounded::new` answers.
     pub fn new(tenths: Tenths) -> Option<Component>
         ensures { MatchOption result (component_in tenths.0 ≡ false) (λ c. c.tenths ≡ tenths) }
     {
-        if -9_999_999 <= tenths.0 && tenths.0 <= 9_999_999 {
+        if (-9_999_999..=9_999_999).contains(&tenths.0) {
             Some(Component { tenths })
         } else {
             None
@@ -48,7 +47,7 @@ impl Component {
         Component { tenths: Tenths(0) }
     }
 
-    /// The payload that the component is coded as.
+    /// The payload that the component is coded as. A coding has a name of its own, since the number is not the component.
     pub fn payload(self) -> u32
         ensures { result ≡ component_payload self.tenths.0 }
     {

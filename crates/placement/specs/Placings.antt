@@ -1,12 +1,13 @@
 -- What the calls of a placed bank come to, by those of the bank below.
-use Rattle.std.specs.Prelude.{◌≡◌, ℕ, Bool, true, false, cond, ◌&&◌, ◌⊎◌, List, [], ◌∷◌, length, Some, None, Option, ◌==◌, refl}
+use Rattle.std.specs.Prelude.{◌≡◌, ℕ, ◌≤◌, Bool, true, false, cond, ◌&&◌, ◌⊎◌, List, [], ◌∷◌, length, Some, None, Ok, Option, ◌==◌, refl}
 use Rattle.std.proofs.Common.{inl, inr, sym, ap, subst, ◌∙◌, arith, eqb-true}
 use Rattle.std.proofs.Math.Path.{fun_ext}
 use Rattle.std.proofs.lemmas.Bool.{eqb-false}
+use Rattle.banks.proofs.Causes.{station_found}
 use Rattle.banks.proofs.Makings.{empty_lawful, made_if}
 use Rattle.banks.specs.Calls.{altered, answered, asked_reach, fetch_fault, fetched, first, no_station, reach_answer, reach_fault, reach_set, store_answer, store_fault, stored, with_cell, with_reach, with_station_reach}
 use Rattle.banks.specs.Limits.{allowed, between}
-use Rattle.banks.specs.Making.{ill_fitting, no_record, no_station_there, nothing_below, settled}
+use Rattle.banks.specs.Making.{ill_fitting, layer_fault, no_record, no_station_there, nothing_below, settled}
 use Rattle.banks.specs.Meaning.{Empty, Lawful, Meaning, Station}
 use Rattle.banks.specs.declared.fault.BankFault.{BankFault}
 use Rattle.banks.specs.declared.record.Record.{Record}
@@ -34,6 +35,10 @@ altered_placed places (Some f) b x = refl
 same_sizes : (places : List ℕ) (o : Option BankFault) (b x : Meaning) → placing_fault places x ≡ placing_fault places b → placing_fault places (altered o b x) ≡ placing_fault places b
 same_sizes places None b x e = e
 same_sizes places (Some f) b x e = refl
+
+-- a list that fits a bank is short
+pub few_places : (l : ℕ) (b : Meaning) → Ok tt ≡ answered {A = Unit {0}} (layer_fault l b) tt → l ≤ 64
+few_places l b e = grind (arith, nat_tests)
 
 -- a list of places that was accepted
 clear_list : (l : ℕ) (b : Meaning) (w : Option ℕ) → first (nothing_below b ∷ (ill_fitting l b ∷ (misplaced w ∷ []))) ≡ None → (l ≡ b.n) × (w ≡ None)
@@ -143,6 +148,25 @@ module _ (places : List ℕ) (b : Meaning) (c : ℕ) (there : between 1 (placing
     after_here (reach_fault b (place_of places c)) (reach_fault (placed places b) c) (with_reach b (place_of places c) v) (with_reach (placed places b) c v) (set_told places b c here below) refl (stations_placed places b listed.0 listed.1 c here v)
         ∙ ap (λ x. reach_set x c v) (sym as_placed),
   )
+
+-- the calls at the station below that was found for a copy
+module _ (places : List ℕ) (b : Meaning) (c below : ℕ) (found : Ok below ≡ answered {A = ℕ} (first (no_station (placing places b).n c ∷ [])) (place_of places c)) where
+  named : (between 1 (placing places b).n c ≡ true) × (below ≡ place_of places c)
+  named = station_found (placing places b).n c (place_of places c) below found
+
+  pub asked_below : retold_answer c (asked_reach b below) ≡ asked_reach (placing places b) c
+  asked_below = ap (λ s. retold_answer c (asked_reach b s)) named.1 ∙ asked_here places b c named.0
+
+  pub fetched_below : (e : ℕ) → retold_answer c (fetched b below e) ≡ fetched (placing places b) c e
+  fetched_below e = ap (λ s. retold_answer c (fetched b s e)) named.1 ∙ fetched_here places b c named.0 e
+
+  pub stored_below : (e : ℕ) (r : Record) → (retold_answer c (store_answer b below e r) ≡ store_answer (placing places b) c e r) × (placing places (stored b below e r) ≡ stored (placing places b) c e r)
+  stored_below e r = let done = stored_here places b c named.0 e r in
+      (ap (λ s. retold_answer c (store_answer b s e r)) named.1 ∙ done.0, ap (λ s. placing places (stored b s e r)) named.1 ∙ done.1)
+
+  pub reached_below : (v : Bool) → (retold_answer c (reach_answer b below) ≡ reach_answer (placing places b) c) × (placing places (reach_set b below v) ≡ reach_set (placing places b) c v)
+  reached_below v = let done = reached_here places b c named.0 v in
+      (ap (λ s. retold_answer c (reach_answer b s)) named.1 ∙ done.0, ap (λ s. placing places (reach_set b s v)) named.1 ∙ done.1)
 
 -- the laws
 placed_sized : (places : List ℕ) (b : Meaning) → Empty b ⊎ (allowed b.kind b.n b.m ≡ true) → Empty (placed places b) ⊎ (allowed b.kind b.n b.m ≡ true)

@@ -1,13 +1,13 @@
 //! A layer over a bank that puts its stations into another order.
 #![tactic(auto)]
 
-ghost use Rattle.banks.specs.Calls.{answered, first, no_station, sizes_of};
+ghost use Rattle.banks.specs.Calls.{answered, first, no_station};
 ghost use Rattle.placement.specs.Placing.{placing, placing_fault, retold, retold_answer};
 ghost use Rattle.places.specs.Places.{first_wrong, place_of};
 ghost use Rattle.std.specs.Prelude.{◌≡◌, [], ◌∷◌};
 ghost use Rattle.placement.specs.Placings.{placing_lawful};
 
-use banks::bank::Bank;
+use banks::bank::{Bank, check_layer, layer_sizes};
 use banks::fault::BankFault;
 use banks::record::{Record, Sizes};
 use places::first_wrong;
@@ -37,10 +37,7 @@ fn retell(copy: u32, fault: BankFault) -> BankFault
 fn tell<T>(copy: u32, answer: Result<T, BankFault>) -> Result<T, BankFault>
     ensures { result ≡ retold_answer copy answer }
 {
-    match answer {
-        Ok(value) => Ok(value),
-        Err(fault) => Err(retell(copy, fault)),
-    }
+    answer.map_err(|fault| retell(copy, fault))
 }
 
 impl<B: Bank> Placement<B> {
@@ -61,37 +58,18 @@ impl<B: Bank> Placement<B> {
     pub fn refusal(&self) -> Option<BankFault>
         ensures { result ≡ placing_fault self.now.places.items (B.Bank.meaning self.now.inner) }
     {
-        let sizes = self.inner.sizes();
-        if !sizes.allowed() {
-            return Some(BankFault::Sizes);
+        if let Err(fault) = check_layer(&self.inner, self.places.len()) {
+            return Some(fault);
         }
-        if self.places.len() != sizes.stations as usize {
-            return Some(BankFault::Length(sizes.stations));
-        }
-        match self.wrong {
-            Some(copy) => Some(BankFault::Place(copy as u32)),
-            None => None,
-        }
-    }
-    /// The sizes of the bank below, or none where the making was refused.
-    fn sizes_here(&self) -> Sizes
-        ensures { result ≡ sizes_of (placing self.now.places.items (B.Bank.meaning self.now.inner)) }
-    {
-        match self.refusal() {
-            None => self.inner.sizes(),
-            Some(_) => Sizes {
-                kind: 0,
-                stations: 0,
-                entries: 0,
-            },
-        }
+        let copy = self.wrong?;
+        Some(BankFault::Place(copy as u32))
     }
 
     /// The station of a copy; refused where there is no such copy.
     fn station_of(&self, copy: u32) -> Result<u32, BankFault>
         ensures { result ≡ answered (first (no_station (placing self.now.places.items (B.Bank.meaning self.now.inner)).n copy ∷ [])) (place_of self.now.places.items copy) }
     {
-        self.sizes_here().check_station(copy)?;
+        self.sizes().check_station(copy)?;
         Ok(self.places[copy as usize - 1])
     }
 }
@@ -102,7 +80,7 @@ impl<B: Bank> Bank for Placement<B> {
     ghost lawful = { λ p. placing_lawful p.places.items (B.Bank.meaning p.inner) (B.Bank.lawful p.inner) };
 
     fn sizes(&self) -> Sizes {
-        self.sizes_here()
+        layer_sizes(&self.inner, self.refusal())
     }
 
     fn in_reach(&self, station: u32) -> Result<bool, BankFault> {

@@ -1,57 +1,38 @@
--- One place more, and what a list means that is right throughout.
-use Rattle.std.proofs.Common.{◌≡◌, ℕ, zero, suc, ◌+◌, ◌-◌, ◌<◌, ◌≤◌, Bool, true, false, cond, ◌||◌, eqb, ltb, List, [], ◌∷◌, length, get_or, take, drop, Some, None, Option, sym, refl, ap, ◌∙◌, subst, add-one, arith, length-take-le, drop-cons, get_or-take, ltb-false, ltb-true}
-use lib.Dec.{eqb_refl}
+-- The first copy that fails, and what a list means that is right throughout.
+use Rattle.std.proofs.Common.{◌≡◌, ℕ, zero, suc, ◌+◌, ◌-◌, ◌<◌, ◌≤◌, Bool, true, false, cond, ◌||◌, ◌==◌, ◌≢◌, ltb, List, [], ◌∷◌, length, get_or, take, Some, None, Option, MatchOption, sym, refl, ap, ◌∙◌, subst, arith, length-take-le, get_or-take, ltb-false, ltb-true}
 use Rattle.families.specs.Copies.{among, is_copy}
 use Rattle.places.specs.Places.{Once, first_failing, first_wrong, place_of, right}
 use Rattle.std.proofs.lemmas.List.FromFn.{get_or-range_with_len, length-range_with_len}
 use Rattle.std.proofs.lemmas.Bool.Decides.{nat_tests}
-use Rattle.std.specs.List.{range_with_len}
+use Rattle.std.proofs.lemmas.List.Folds.{list_any_at}
+use Rattle.std.specs.List.{list_any, range_with_len}
 
--- what is left of a list decides
-module _ {R : Type 0} (f : List ℕ → R) (step : ℕ → R → R) (by : (x : ℕ) (xs : List ℕ) → f (x ∷ xs) ≡ step x (f xs)) where
-  pub left_step : (xs : List ℕ) (i : ℕ) → i < length xs → f (drop i xs) ≡ step (get_or xs i 0) (f (drop (i + 1) xs))
-  left_step xs i here = rw (add-one i, drop-cons xs i 0 here) (by (get_or xs i 0) (drop (suc i) xs))
+pub among_any : (xs : List ℕ) (c : ℕ) → list_any (λ x. x == c) xs ≡ among xs c
+among_any [] c = refl
+among_any (x ∷ xs) c = ap (λ b. x == c || b) (among_any xs c)
 
-pub left_end : {R : Type 0} (f : List ℕ → R) (xs : List ℕ) (i : ℕ) → length xs ≤ i → f (drop i xs) ≡ f []
-left_end f [] zero h = refl
-left_end f [] (suc i) h = refl
-left_end f (x ∷ xs) zero h = absurd (omega arith)
-left_end f (x ∷ xs) (suc i) h = left_end f xs i (omega arith)
+-- the first number from a on that fails the test
+module _ (test : ℕ → Bool) where
+  abbrev pub Stops : ℕ → ℕ → Option ℕ → Type 0
+  Stops a end r = MatchOption r ((k : ℕ) → a ≤ k → k < end → test k ≡ true) (λ c. (a ≤ c) × (c < end) × (test c ≡ false) × ((k : ℕ) → a ≤ k → k < c → test k ≡ true))
 
-module _ (xs : List ℕ) (c i : ℕ) (all : among xs c ≡ among (drop i xs) c) where
-  among_step : i < length xs → among xs c ≡ (eqb (get_or xs i 0) c || among (drop (i + 1) xs) c)
-  among_step here = all ∙ left_step (λ l. among l c) (λ x b. eqb x c || b) (λ y ys. refl) xs i here
+  stops_later : (a end : ℕ) (r : Option ℕ) → test a ≡ true → Stops a end r → Stops (a + 1) end r
+  stops_later a end None e s = λ k h l. s k (omega arith) l
+  stops_later a end (Some c) e s =
+      let after : a ≢ c = λ q. absurd (cc (s.2, e, q)) in
+      (omega (arith, s.0), s.1, s.2, λ k h l. s.3 k (omega arith) l)
 
-  pub among_found : i < length xs → get_or xs i 0 ≡ c → true ≡ among xs c
-  among_found here e = let s = among_step here in grind (arith, nat_tests)
+  stop_here : (a end : ℕ) → a < end → (rest o : Option ℕ) → (Stops (a + 1) end o → o ≡ rest) → (b : Bool) → test a ≡ b → Stops a end o → o ≡ cond b rest (Some a)
+  stop_here a end here rest o more true q t = more (stops_later a end o q t)
+  stop_here a end here rest None more false q t = let passes : test a ≡ true = t a (omega arith) here in absurd (cc)
+  stop_here a end here rest (Some c) more false q t =
+      let not_later : a < c → ⊥ = λ l. let passes : test a ≡ true = t.3 a (omega arith) l in absurd (cc) in
+      ap Some (omega (arith, t.0))
 
-  pub among_passed : i < length xs → (get_or xs i 0 ≡ c → ⊥) → among xs c ≡ among (drop (i + 1) xs) c
-  among_passed here n = let s = among_step here in grind (arith, nat_tests)
-
-  pub among_end : length xs ≤ i → false ≡ among xs c
-  among_end h = sym (all ∙ left_end (λ l. among l c) xs i h)
-
-module _ (ps : List ℕ) (i : ℕ) where
-  abbrev pub left : ℕ → Option ℕ
-  left j = first_failing (right ps) (drop j (range_with_len 1 (length ps)))
-
-  wrong_step : i < length ps → left i ≡ cond (right ps (1 + i)) (left (i + 1)) (Some (1 + i))
-  wrong_step here =
-      left_step (first_failing (right ps)) (λ c o. cond (right ps c) o (Some c)) (λ y ys. refl) (range_with_len 1 (length ps)) i (omega (arith, length-range_with_len 1 (length ps)))
-      ∙ ap (λ c. cond (right ps c) (left (i + 1)) (Some c)) (get_or-range_with_len 1 (length ps) i 0 here)
-
-  module _ (all : first_wrong ps ≡ left i) (here : i < length ps) (b : Bool) (e : right ps (1 + i) ≡ b) where
-    by_right : first_wrong ps ≡ cond b (left (i + 1)) (Some (1 + i))
-    by_right = all ∙ wrong_step here ∙ ap (λ t. cond t (left (i + 1)) (Some (1 + i))) e
-
-pub wrong_found : (ps : List ℕ) (i : ℕ) → first_wrong ps ≡ left ps i i → i < length ps → right ps (1 + i) ≡ false → Some (i + 1) ≡ first_wrong ps
-wrong_found ps i all here e = let one : i + 1 ≡ 1 + i = omega arith in ap Some one ∙ sym (by_right ps i all here false e)
-
-pub wrong_passed : (ps : List ℕ) (i : ℕ) → first_wrong ps ≡ left ps i i → i < length ps → right ps (1 + i) ≡ true → first_wrong ps ≡ left ps i (i + 1)
-wrong_passed ps i all here e = by_right ps i all here true e
-
-pub wrong_end : (ps : List ℕ) (i : ℕ) → first_wrong ps ≡ left ps i i → length ps ≤ i → None ≡ first_wrong ps
-wrong_end ps i all h = sym (all ∙ left_end (first_failing (right ps)) (range_with_len 1 (length ps)) i (omega (arith, length-range_with_len 1 (length ps))))
+  pub first_stop : (n a end : ℕ) → a + n ≡ end → (r : Option ℕ) → Stops a end r → r ≡ first_failing test (range_with_len a n)
+  first_stop zero a end e None s = refl
+  first_stop zero a end e (Some c) s = absurd (omega (arith, s.0, s.1))
+  first_stop (suc n) a end e r s = stop_here a end (omega arith) (first_failing test (range_with_len (a + 1) n)) r (first_stop n (a + 1) end (omega arith) r) (test a) refl s
 
 -- a list that is right throughout names no station twice
 all_pass : (test : ℕ → Bool) (xs : List ℕ) → first_failing test xs ≡ None → (i : ℕ) → i < length xs → test (get_or xs i 0) ≡ true
@@ -60,9 +41,7 @@ all_pass test (x ∷ xs) e zero h = let all : first_failing test (x ∷ xs) ≡ 
 all_pass test (x ∷ xs) e (suc i) h = let more : first_failing test xs ≡ None = grind (arith, nat_tests) in all_pass test xs more i (omega arith)
 
 among_at : (xs : List ℕ) (i : ℕ) → i < length xs → among xs (get_or xs i 0) ≡ true
-among_at [] i h = absurd (omega arith)
-among_at (x ∷ xs) zero h = let same = eqb_refl x in grind (arith, nat_tests)
-among_at (x ∷ xs) (suc i) h = let more = among_at xs i (omega arith) in grind (arith, nat_tests)
+among_at xs i h = let x = get_or xs i 0 in sym (among_any xs x) ∙ list_any_at (λ y. y == x) xs i 0 h (grind (arith, nat_tests))
 
 module _ (ps : List ℕ) (none : first_wrong ps ≡ None) where
   all_right : (c : ℕ) → is_copy (length ps) c ≡ true → right ps c ≡ true

@@ -1,11 +1,11 @@
 -- What a row has given so far, and a choice from the choices below.
-use Rattle.std.proofs.Common.{◌≡◌, ℕ, zero, suc, ◌<◌, Bool, true, false, ◌||◌, eqb, List, [], ◌∷◌, ◌++◌, Some, None, Option, sym, refl, ap, ◌∙◌, subst, append_assoc, arith}
-use Rattle.std.proofs.lemmas.List.{append-nil}
+use Rattle.std.proofs.Common.{◌≡◌, ℕ, zero, suc, ◌-◌, ◌<◌, Bool, true, false, ◌||◌, eqb, List, [], ◌∷◌, ◌++◌, Some, None, Option, sym, refl, ap, ◌∙◌, subst, append_assoc, arith}
 use Rattle.families.specs.Copies.{Copies, among}
 use Rattle.families.specs.Levels.{choice_joined}
 use Rattle.families.specs.Trees.{children, choice, gather, near_first, with_copies}
 use Rattle.quorum.specs.declared.copy_set.CopySet.{CopySet}
 use Rattle.quorum.specs.Sets.{Is, Joins, Same, members}
+use Rattle.quorum.proofs.Rows.{gather-near_first}
 use Rattle.families.specs.declared.Quorum.{Quorum}
 use Rattle.families.specs.declared.Quorum.TheVariants.{Read, Write}
 
@@ -72,88 +72,71 @@ module _ (whole : Option (List ℕ)) where
   pub added_one : (s s' : CopySet) (c : ℕ) (rest rest' : Option (List ℕ)) → rest ≡ with_copies (c ∷ []) rest' → ((x : ℕ) → members s' x ≡ (eqb c x || members s x)) → SoFar whole s rest → SoFar whole s' rest'
   added_one s s' c rest rest' e u g = added s s' (c ∷ []) rest rest' e (λ x. u x ∙ or_turned (eqb c x) (members s x)) g
 
-  -- nothing is left, or what is left is not to be had
-  pub complete : (s : CopySet) (rest : Option (List ℕ)) → rest ≡ Some [] → SoFar whole s rest → Is (Some s) whole
-  complete s rest e g =
-      let l : whole ≡ Some g.copies = g.left ∙ ap (with_copies g.copies) e ∙ ap Some (append-nil g.copies) in
-      rw l g.same
-
+  -- what is left is not to be had
   pub lacking : (s : CopySet) (rest : Option (List ℕ)) → rest ≡ None → SoFar whole s rest → Is None whole
   lacking s rest e g = let l : whole ≡ None = g.left ∙ ap (with_copies g.copies) e in rw l tt
 
--- The set has the choices that the row has given, and what is wanted still comes from the rest.
-abbrev pub Gathered : (ℕ → Option (List ℕ)) → ℕ → List ℕ → CopySet → ℕ → List ℕ → Type 0
-Gathered f k row s wanted rest = SoFar (gather f k row) s (gather f wanted rest)
+-- The set has the choices that a row has given, and what is wanted of the whole still comes from the rest of the row.
+pub record Gathered (f : ℕ → Option (List ℕ)) (whole : Option (List ℕ)) (s : CopySet) (wanted : ℕ) (rest : List ℕ) : Type 0 where
+  pub so_far : SoFar whole s (gather f wanted rest)
 
-module _ (f : ℕ → Option (List ℕ)) (k : ℕ) (row : List ℕ) where
-  pub gathered_none : (s : CopySet) → ((c : ℕ) → members s c ≡ false) → Gathered f k row s k row
-  gathered_none s e = nothing_yet (gather f k row) s e
+pub gathered_none : (f : ℕ → Option (List ℕ)) (k : ℕ) (row : List ℕ) {s : CopySet} → ((c : ℕ) → members s c ≡ false) → Gathered f (gather f k row) s k row
+gathered_none f k row e = record { so_far = nothing_yet (gather f k row) _ e }
 
+gather_skip : (f : ℕ → Option (List ℕ)) (w : ℕ) (c : ℕ) (rest : List ℕ) → f c ≡ None → gather f w (c ∷ rest) ≡ gather f w rest
+gather_skip f zero c rest e = refl
+gather_skip f (suc w) c rest e = rw (e, gather) refl
+
+gather_take : (f : ℕ → Option (List ℕ)) (w w' : ℕ) (c : ℕ) (rest m : List ℕ) → w ≡ suc w' → f c ≡ Some m → gather f w (c ∷ rest) ≡ with_copies m (gather f w' rest)
+gather_take f w w' c rest m p e = rw (p, e, gather) refl
+
+module _ {f : ℕ → Option (List ℕ)} {whole : Option (List ℕ)} {s : CopySet} where
   -- no more are wanted
-  pub gathered_done : (s : CopySet) (w : ℕ) (c : ℕ) (rest : List ℕ) → w ≡ 0 → Gathered f k row s w (c ∷ rest) → Gathered f k row s w rest
-  gathered_done s w c rest e g = passed_over (gather f k row) s _ _ (rw e refl) g
+  pub gathered_done : {w : ℕ} {rest left : List ℕ} → w ≡ 0 → Gathered f whole s w rest → Gathered f whole s w left
+  gathered_done e g = record { so_far = passed_over whole s _ _ (rw e refl) g.so_far }
 
-  gather_skip : (w : ℕ) (c : ℕ) (rest : List ℕ) → f c ≡ None → gather f w (c ∷ rest) ≡ gather f w rest
-  gather_skip zero c rest e = refl
-  gather_skip (suc w) c rest e = rw (e, gather) refl
+  pub gathered_skip : {w c : ℕ} {rest : List ℕ} → Is None (f c) → Gathered f whole s w (c ∷ rest) → Gathered f whole s w rest
+  gathered_skip {w = w} {c = c} {rest = rest} i g = record { so_far = passed_over whole s _ _ (gather_skip f w c rest (is_none (f c) i)) g.so_far }
 
-  gather_take : (w w' : ℕ) (c : ℕ) (rest m : List ℕ) → w ≡ suc w' → f c ≡ Some m → gather f w (c ∷ rest) ≡ with_copies m (gather f w' rest)
-  gather_take w w' c rest m p e = rw (p, e, gather) refl
-
-  pub gathered_skip : (s : CopySet) (w : ℕ) (c : ℕ) (rest : List ℕ) → Is None (f c) → Gathered f k row s w (c ∷ rest) → Gathered f k row s w rest
-  gathered_skip s w c rest i g = passed_over (gather f k row) s _ _ (gather_skip w c rest (is_none (f c) i)) g
-
-  pub gathered_take : (s b s' : CopySet) (w w' : ℕ) (c : ℕ) (rest : List ℕ) → Is (Some b) (f c) → w ≡ suc w' → ((x : ℕ) → members s' x ≡ (members s x || members b x)) → Gathered f k row s w (c ∷ rest) → Gathered f k row s' w' rest
-  gathered_take s b s' w w' c rest i e u g =
+  pub gathered_take : (b : CopySet) {s' : CopySet} {w w' c : ℕ} {rest : List ℕ} → Is (Some b) (f c) → w ≡ suc w' → ((x : ℕ) → members s' x ≡ (members s x || members b x)) → Gathered f whole s w (c ∷ rest) → Gathered f whole s' w' rest
+  gathered_take b {s' = s'} {w = w} {w' = w'} {c = c} {rest = rest} i e u g =
       let h = is_some b (f c) i in
-      added (gather f k row) s s' h.copies _ _ (gather_take w w' c rest h.copies e h.is) (λ x. u x ∙ ap (λ y. members s x || y) (h.same x)) g
+      record { so_far = added whole s s' h.copies _ _ (gather_take f w w' c rest h.copies e h.is) (λ x. u x ∙ ap (λ y. members s x || y) (h.same x)) g.so_far }
 
   -- a copy that is its own choice
-  pub gathered_one : (s s' : CopySet) (w w' : ℕ) (c : ℕ) (rest : List ℕ) → f c ≡ Some (c ∷ []) → w ≡ suc w' → ((x : ℕ) → members s' x ≡ (eqb c x || members s x)) → Gathered f k row s w (c ∷ rest) → Gathered f k row s' w' rest
-  gathered_one s s' w w' c rest i e u g = added_one (gather f k row) s s' c _ _ (gather_take w w' c rest (c ∷ []) e i) u g
+  pub gathered_one : {s' : CopySet} {w w' c : ℕ} {rest : List ℕ} → f c ≡ Some (c ∷ []) → w ≡ suc w' → ((x : ℕ) → members s' x ≡ (eqb c x || members s x)) → Gathered f whole s w (c ∷ rest) → Gathered f whole s' w' rest
+  gathered_one {s' = s'} {w = w} {w' = w'} {c = c} {rest = rest} i e u g = record { so_far = added_one whole s s' c _ _ (gather_take f w w' c rest (c ∷ []) e i) u g.so_far }
 
-  pub gathered_all : (s : CopySet) (w : ℕ) → w ≡ 0 → Gathered f k row s w [] → Is (Some s) (gather f k row)
-  gathered_all s w e g = complete (gather f k row) s (gather f w []) (rw e refl) g
+  pub gathered_too_few : {w : ℕ} → 0 < w → Gathered f whole s w [] → Is None whole
+  gathered_too_few {w = zero} p g = absurd (omega arith)
+  gathered_too_few {w = suc w} p g = lacking whole s (gather f (suc w) []) refl g.so_far
 
-  pub gathered_too_few : (s : CopySet) (w : ℕ) → 0 < w → Gathered f k row s w [] → Is None (gather f k row)
-  gathered_too_few s zero p g = absurd (omega arith)
-  gathered_too_few s (suc w) p g = lacking (gather f k row) s (gather f (suc w) []) refl g
+-- a copy away has no choice for writing
+write_away : (d h : ℕ) (s : Copies) (c : ℕ) → s c ≡ false → choice Write d h s c ≡ None
+write_away d zero s c e = rw (e, choice) refl
+write_away d (suc h) s c e = rw (e, choice) refl
 
--- A copy's choice.
-module _ (d h h' : ℕ) (s : Copies) (c : ℕ) (e : h ≡ suc h') where
-  pub read_here : (r : CopySet) → s c ≡ true → Same (members r) (among (c ∷ [])) → Is (Some r) (choice Read d h s c)
-  read_here r t m = rw (e, t, choice) m
+-- The choice of a copy with children, of a quorum that is known to be the one or the other.
+module _ (q : Quorum) (d h : ℕ) (s : Copies) (c : ℕ) (above : 0 < h) where
+  abbrev pub below : Option (List ℕ)
+  below = gather (choice q d (h - 1) s) (suc d) (near_first s (children d c))
 
-  pub read_away : (r : Option CopySet) → s c ≡ false → Is r (gather (choice Read d h' s) (suc d) (near_first s (children d c))) → Is r (choice Read d h s c)
-  read_away r t i = rw (e, t, choice) i
+  with_children : h ≡ suc (h - 1)
+  with_children = omega arith
 
-  pub write_away : s c ≡ false → Is None (choice Write d h s c)
-  write_away t = rw (e, t, choice) tt
+  pub reading_away : (r : Option CopySet) → q ≡ Read → s c ≡ false → Is r below → Is r (choice q d h s c)
+  reading_away r k t i = rw (with_children, k, t, choice) i
 
-  pub write_none : s c ≡ true → Is None (gather (choice Write d h' s) (suc d) (children d c)) → Is None (choice Write d h s c)
-  write_none t i = rw (e, t, is_none _ i, choice) tt
+  by_number : q ≡ Write → below ≡ gather (choice q d (h - 1) s) (suc d) (children d c)
+  by_number k = gather-near_first (choice q d (h - 1) s) s (λ x e. rw k (write_away d (h - 1) s x e)) (suc d) (children d c)
 
-  pub write_here : (r r' : CopySet) → s c ≡ true → Is (Some r) (gather (choice Write d h' s) (suc d) (children d c)) → ((x : ℕ) → members r' x ≡ (eqb c x || members r x)) → Is (Some r') (choice Write d h s c)
-  write_here r r' t i u =
-      let g = is_some r _ i in
-      rw (e, t, g.is, choice) (λ x. u x ∙ ap (λ b. eqb c x || b) (g.same x))
+  pub writing_none : q ≡ Write → s c ≡ true → Is None below → Is None (choice q d h s c)
+  writing_none k t i = rw (with_children, k, t, choice, is_none _ (rw (by_number k) at i)) tt
 
--- The same, of a quorum that is known to be the one or the other.
-module _ (q : Quorum) (d h h' : ℕ) (s : Copies) (c : ℕ) (e : h ≡ suc h') where
-  pub reading_here : (r : CopySet) → q ≡ Read → s c ≡ true → Same (members r) (among (c ∷ [])) → Is (Some r) (choice q d h s c)
-  reading_here r k t m = rw k (read_here d h h' s c e r t m)
-
-  pub reading_away : (r : Option CopySet) (row : List ℕ) → q ≡ Read → s c ≡ false → row ≡ near_first s (children d c) → Is r (gather (choice q d h' s) (suc d) row) → Is r (choice q d h s c)
-  reading_away r row k t l i = rw k (read_away d h h' s c e r t (rw (k, l) at i))
-
-  pub writing_away : q ≡ Write → s c ≡ false → Is None (choice q d h s c)
-  writing_away k t = rw k (write_away d h h' s c e t)
-
-  pub writing_none : (row : List ℕ) → q ≡ Write → s c ≡ true → row ≡ children d c → Is None (gather (choice q d h' s) (suc d) row) → Is None (choice q d h s c)
-  writing_none row k t l i = rw k (write_none d h h' s c e t (rw (k, l) at i))
-
-  pub writing_here : (row : List ℕ) (r r' : CopySet) → q ≡ Write → s c ≡ true → row ≡ children d c → Is (Some r) (gather (choice q d h' s) (suc d) row) → ((x : ℕ) → members r' x ≡ (eqb c x || members r x)) → Is (Some r') (choice q d h s c)
-  writing_here row r r' k t l i u = rw k (write_here d h h' s c e r r' t (rw (k, l) at i) u)
+  pub writing_here : (r r' : CopySet) → q ≡ Write → s c ≡ true → Is (Some r) below → ((x : ℕ) → members r' x ≡ (eqb c x || members r x)) → Is (Some r') (choice q d h s c)
+  writing_here r r' k t i u =
+      let g = is_some r _ (rw (by_number k) at i) in
+      rw (with_children, k, t, choice, g.is) (λ x. u x ∙ ap (λ b. eqb c x || b) (g.same x))
 
 -- Two choices joined for writing.
 pub joined_write : (one other r : Option CopySet) (x y : Option (List ℕ)) → Joins one other r → Is one x → Is other y → Is r (choice_joined Write x y)

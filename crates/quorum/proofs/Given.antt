@@ -1,7 +1,7 @@
 -- From a set that was chosen to the rule's choice.
-use Rattle.std.proofs.Common.{◌≡◌, ℕ, List, Some, None, Ok, Err, Option, Result, sym, refl, ap, ◌∙◌, subst, MatchOption}
+use Rattle.std.proofs.Common.{◌≡◌, ℕ, List, length, Some, None, Ok, Err, Option, Result, sym, refl, ap, ◌∙◌, subst, MatchOption}
 use mathlib.Core.Path.{fun_ext}
-use Rattle.families.specs.Copies.{Copies, among, marks}
+use Rattle.families.specs.Copies.{Copies, among, marked, marks}
 use Rattle.families.specs.Meaning.{Chosen, Lawful, Meaning}
 use Rattle.families.specs.declared.Quorum.{Quorum}
 use Rattle.families.specs.declared.Quorum.TheVariants.{Read, Write}
@@ -26,6 +26,7 @@ given_chooses m law q reach before after (Some s) (Some l) e i fit (Ok c) g =
     (fit, e ∙ ap Some (sym (g ∙ ap (λ n. marks n (members s)) fit.1 ∙ ap (marks m.n) (fun_ext i))))
 given_chooses m law q reach before after (Some s) (Some l) e i fit (Err f) g = absurd g
 
--- a choice that was made from the reach marks as a set
-pub from_marks : (P : Copies → Type 0) (s t : Copies) → Same s t → P s → P t
-from_marks P s t e h = subst P (fun_ext e) h
+-- The lists fit, the reach marks are read as a set, and what the rule picks from that set is handed to the caller.
+pub picked_chooses : (m : Meaning) → Lawful m → (q : Quorum) (pick : Copies → Option (List ℕ)) (reach before after : List ℕ) (s : CopySet) (set : Option CopySet) (r : Result rule.Chosen RuleFault) → ((l : List ℕ) → m.choice q l ≡ option_map (λ l. marks m.n (among l)) (pick (marked m.n l))) → Fitting m reach before → Same (members s) (marked (length reach) reach) → Is set (pick (members s)) → Gives q set before after r → Chooses m q reach before after r
+picked_chooses m law q pick reach before after s set r e fit same i g =
+    given_chooses m law q reach before after set (pick (marked m.n reach)) (e reach) (rw (fun_ext same, fit.0) at i) fit r g

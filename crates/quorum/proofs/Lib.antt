@@ -1,7 +1,6 @@
 mod Fitting
 mod Gathering
 mod Given
-mod Marked
 mod Marking
-mod RowProofs
+mod Rows
 mod VoteCounting

@@ -3,6 +3,7 @@ pub mod Faults
 pub mod Rows
 pub mod Sets
 pub mod Shapes
+pub mod VoteLists
 pub mod Voting
 pub mod RuleLaws
 pub mod Shaping

@@ -1,9 +1,11 @@
 //! Sets of copies, of which there are at most 64.
-ghost use Rattle.std.specs.Prelude.{◌≡◌, ℕ, ◌<◌, false, ◌||◌, [], ◌∷◌, ◌==◌};
+ghost use Rattle.std.specs.Prelude.{◌≡◌, ℕ, ◌<◌, false, ◌||◌, [], ◌∷◌, ◌==◌, IsTrue};
 ghost use Rattle.families.specs.Copies.{among};
 ghost use Rattle.quorum.specs.Sets.{Same, members};
 
-/// A set of copies.
+use std::array;
+
+/// A set of copies. An array holds it, so a choosing call takes no memory and cannot fail for want of it.
 #[derive(Clone, Copy)]
 pub(crate) struct CopySet {
     marks: [bool; 65],
@@ -16,11 +18,12 @@ impl CopySet {
         CopySet { marks: [false; 65] }
     }
 
+    /// A set has no copy beyond 64.
     pub(crate) fn has(&self, copy: usize) -> bool
-        requires { copy < 65 }
-        ensures { result ≡ members self.now copy }
+        ensures member { result ≡ members self.now copy }
+        ensures marked { IsTrue result → copy < 65 }
     {
-        self.marks[copy]
+        copy < 65 && self.marks[copy]
     }
 
     pub(crate) fn only(copy: usize) -> CopySet
@@ -42,8 +45,6 @@ impl CopySet {
     pub(crate) fn add_all(&mut self, other: &CopySet)
         ensures { (k : ℕ) → members self.new k ≡ (members self.old k || members other.now k) }
     {
-        for i in 0..65 {
-            self.marks[i] |= other.marks[i];
-        }
+        self.marks = array::from_fn(|copy| self.marks[copy] || other.marks[copy]);
     }
 }

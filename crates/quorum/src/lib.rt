@@ -8,4 +8,5 @@ mod marks;
 pub mod rule;
 pub mod tree;
 pub mod tree_rule;
+mod votes;
 pub mod votes_rule;

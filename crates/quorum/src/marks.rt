@@ -1,4 +1,7 @@
 //! Marks: sets of copies in the caller's lists.
+//!
+//! A rule chooses in three steps: it checks the lengths, chooses a set in its own way, and gives it. The steps stand in
+//! each rule, since a trait for the middle one would need a meaning and a law of its own.
 ghost use Rattle.std.specs.Prelude.{◌≡◌, ◌<◌, length, MatchResult};
 ghost use Rattle.families.specs.Copies.{marked, marks};
 ghost use Rattle.quorum.specs.Choosing.{Gives};
@@ -16,6 +19,7 @@ pub(crate) fn marked_set(reach: &[u8]) -> CopySet
     ensures { Same (members result) (marked (length reach.now) reach.now) }
 {
     let mut set = CopySet::empty();
+    // The mark at place i is that of copy i + 1.
     for (i, mark) in reach.iter().enumerate() {
         if *mark != 0 {
             set.insert(i + 1);
@@ -26,7 +30,6 @@ pub(crate) fn marked_set(reach: &[u8]) -> CopySet
 
 /// Writes 1 for each copy of the set, and 0 for the rest.
 pub(crate) fn fill_marks(set: &CopySet, choice: &mut [u8])
-    requires { length choice.old < 65 }
     ensures { choice.new ≡ marks (length choice.old) (members set.now) }
 {
     for (i, mark) in choice.iter_mut().enumerate() {
@@ -52,7 +55,6 @@ pub(crate) fn give(
     set: Option<CopySet>,
     choice: &mut [u8],
 ) -> Result<Chosen, RuleFault>
-    requires { length choice.old < 65 }
     ensures { Gives quorum set choice.old choice.new result }
 {
     match set {

@@ -5,6 +5,7 @@ ghost use Rattle.quorum.specs.Choosing.{Chooses};
 ghost use Rattle.std.specs.Prelude.{◌≡◌};
 
 use super::fault::RuleFault;
+use families::Quorum;
 
 /// That a choice was made.
 #[derive(Clone, Copy, PartialEq, Eq, Debug)]
@@ -19,14 +20,24 @@ pub trait Rule {
     fn copies(&self) -> u32
         ensures { result ≡ (meaning self.now).n };
 
-    /// Fills the choice marks with 1 for each copy chosen for reading, and 0 for the rest. The reach marks are not 0
-    /// for the copies in reach. Refused where a list has another length, or the reach holds no read quorum.
-    fn choose_read(&self, reach: &[u8], choice: &mut [u8]) -> Result<Chosen, RuleFault>
-        ensures { Chooses (meaning self.now) Read reach.now choice.old choice.new result };
+    /// Fills the choice marks with 1 for each copy chosen for this quorum, and 0 for the rest. The reach marks are not 0
+    /// for the copies in reach; marks are bytes, since any other value than 0 counts alike. Refused where a list has another length, or the reach holds no such quorum.
+    fn choose(&self, quorum: Quorum, reach: &[u8], choice: &mut [u8]) -> Result<Chosen, RuleFault>
+        ensures { Chooses (meaning self.now) quorum reach.now choice.old choice.new result };
 
-    /// The same for writing.
+    /// The choice for reading.
+    fn choose_read(&self, reach: &[u8], choice: &mut [u8]) -> Result<Chosen, RuleFault>
+        ensures { Chooses (meaning self.now) Read reach.now choice.old choice.new result }
+    {
+        self.choose(Quorum::Read, reach, choice)
+    }
+
+    /// The choice for writing.
     fn choose_write(&self, reach: &[u8], choice: &mut [u8]) -> Result<Chosen, RuleFault>
-        ensures { Chooses (meaning self.now) Write reach.now choice.old choice.new result };
+        ensures { Chooses (meaning self.now) Write reach.now choice.old choice.new result }
+    {
+        self.choose(Quorum::Write, reach, choice)
+    }
 
     ghost lawful: { (r : Self) → Lawful (meaning r) };
 }

@@ -1,10 +1,13 @@
 //! Trees: the degrees and heights that are allowed.
 ghost use Rattle.std.specs.Prelude.{◌≡◌, ◌/◌, ◌≤◌, true, false, MatchResult};
+ghost use Rattle.families.specs.Levels.{level};
 ghost use Rattle.families.specs.Trees.{copies_of};
+ghost use Rattle.quorum.specs.Rows.{copies_in};
 ghost use Rattle.quorum.specs.Shapes.{allowed_tree};
 ghost use Rattle.quorum.specs.declared.fault.TreeFault.TheVariants.{NotAllowed};
 
 use super::fault::TreeFault;
+use std::ops::Range;
 
 /// A full tree of an odd degree: every copy above the lowest level has `degree` children, and `height` levels stand
 /// below the root.
@@ -56,5 +59,20 @@ impl Tree {
             last = last * self.degree + 1;
         }
         last
+    }
+
+    /// The copies of a level; levels are counted from 0 at the root.
+    pub(crate) fn level(&self, number: u32) -> Range<usize>
+        requires { number ≤ self.now.height }
+        ensures { copies_in result ≡ level (self.now.degree / 2) number }
+    {
+        let degree = self.degree as usize;
+        let mut first = 1;
+        let mut size = 1;
+        for _level in 0..number {
+            first = degree * (first - 1) + 2;
+            size *= degree;
+        }
+        first..first + size
     }
 }

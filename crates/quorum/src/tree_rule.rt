@@ -1,10 +1,8 @@
 //! The tree rule.
-ghost use Rattle.std.specs.Prelude.{◌≡◌, suc, ◌+◌, ◌-◌, ◌*◌, ◌/◌, ◌<◌, ◌≤◌, take};
+ghost use Rattle.std.specs.Prelude.{◌≡◌, suc, ◌-◌, ◌/◌, ◌<◌, ◌≤◌};
 ghost use Rattle.families.specs.Trees.{children, choice, gather, near_first, tree_rule};
-ghost use Rattle.quorum.specs.Choosing.{Chooses};
-ghost use Rattle.quorum.specs.Rows.{Fits};
+ghost use Rattle.quorum.specs.Rows.{Fits, copies_in};
 ghost use Rattle.quorum.specs.Sets.{Is, members};
-ghost use Rattle.std.specs.List.{AllByRecursion};
 ghost use Rattle.quorum.specs.RuleLaws.{tree_keeps};
 
 use super::copy_set::CopySet;
@@ -13,113 +11,92 @@ use super::marks::{check_lengths, give, marked_set};
 use super::rule::{Chosen, Rule};
 use super::tree::Tree;
 use families::Quorum;
+use std::ops::Range;
 
-/// The children of a copy, by number.
-fn by_number(half: usize, copy: usize) -> [usize; 9]
-    requires { (half ≤ 4) × ((0 < copy) × (copy < 65)) }
-    ensures { take (2 * half + 1) result ≡ children half copy }
-{
-    let degree = 2 * half + 1;
-    let first = degree * (copy - 1) + 2;
-    let mut row = [0; 9];
-    for i in 0..degree {
-        row[i] = first + i;
-    }
-    row
-}
-
-/// The children of a copy, those in reach first.
-fn near_first(reach: &CopySet, half: usize, copy: usize) -> [usize; 9]
-    requires { (half ≤ 4) × ((0 < copy) × ((2 * half + 1) * copy + 1 < 65)) }
-    ensures { take (2 * half + 1) result ≡ near_first (members reach.now) (children half copy) }
-{
-    let degree = 2 * half + 1;
-    let first = degree * (copy - 1) + 2;
-    let mut row = [0; 9];
-    let mut len = 0;
-    for i in 0..degree {
-        if reach.has(first + i) {
-            row[len] = first + i;
-            len += 1;
-        }
-    }
-    for j in 0..degree {
-        if !reach.has(first + j) {
-            row[len] = first + j;
-            len += 1;
-        }
-    }
-    row
-}
-
-/// The choice of a copy, made of its children's choices; `height` levels stand below the copy.
-#[cycle(choose_for_copy_choose_in_row)]
-fn choose_for_copy(
+/// A choice to be made for a copy of a tree in which copies have `2 * half + 1` children. `height` levels stand below
+/// the copy, and all copies of them have marks.
+#[derive(Clone, Copy)]
+struct Choice<'a> {
     quorum: Quorum,
-    reach: &CopySet,
+    reach: &'a CopySet,
     half: usize,
     height: usize,
     copy: usize,
-) -> Option<CopySet>
-    requires small { half ≤ 4 }
-    requires fits { Fits half height copy }
-    ensures { Is result (choice quorum half height (members reach.now) copy) }
-{
-    let here = reach.has(copy);
-    if height == 0 {
-        return if here {
-            Some(CopySet::only(copy))
-        } else {
-            None
-        };
-    }
-    let degree = 2 * half + 1;
-    match quorum {
-        Quorum::Read => {
-            if here {
-                Some(CopySet::only(copy))
-            } else {
-                let row = near_first(reach, half, copy);
-                choose_in_row(quorum, reach, half, height - 1, &row[0..degree])
-            }
-        }
-        Quorum::Write => {
-            if here {
-                let row = by_number(half, copy);
-                let mut chosen = choose_in_row(quorum, reach, half, height - 1, &row[0..degree])?;
-                chosen.insert(copy);
-                Some(chosen)
-            } else {
-                None
-            }
-        }
-    }
+    ghost small: { half ≤ 4 },
+    ghost fits: { Fits half height copy },
 }
 
-/// The choices of the first of the row that have one, until `half + 1` stand.
-#[cycle(choose_for_copy_choose_in_row)]
-fn choose_in_row(
-    quorum: Quorum,
-    reach: &CopySet,
-    half: usize,
-    height: usize,
-    row: &[usize],
-) -> Option<CopySet>
-    requires small { half ≤ 4 }
-    requires fits { AllByRecursion (Fits half height) row.now }
-    ensures { Is result (gather (choice quorum half height (members reach.now)) (suc half) row.now) }
-{
-    let mut chosen = CopySet::empty();
-    let mut wanted = half + 1;
-    for child in row {
-        if wanted > 0 {
-            if let Some(below) = choose_for_copy(quorum, reach, half, height, *child) {
-                chosen.add_all(&below);
-                wanted -= 1;
+impl<'a> Choice<'a> {
+    /// The copy's children.
+    fn children(&self) -> Range<usize>
+        requires { 0 < self.now.height }
+        ensures { copies_in result ≡ children self.now.half self.now.copy }
+    {
+        let degree = 2 * self.half + 1;
+        let first = degree * (self.copy - 1) + 2;
+        first..first + degree
+    }
+
+    /// The choice of the copy, made of its children's choices.
+    #[cycle(choose_for_copy_choose_in_row)]
+    fn choose_for_copy(&self) -> Option<CopySet>
+        ensures { Is result (choice self.now.quorum self.now.half self.now.height (members self.now.reach.now) self.now.copy) }
+    {
+        let here = self.reach.has(self.copy);
+        if self.height == 0 {
+            return if here {
+                Some(CopySet::only(self.copy))
+            } else {
+                None
+            };
+        }
+        match self.quorum {
+            Quorum::Read => {
+                if here {
+                    Some(CopySet::only(self.copy))
+                } else {
+                    self.choose_in_row()
+                }
+            }
+            Quorum::Write => {
+                if here {
+                    let mut chosen = self.choose_in_row()?;
+                    chosen.insert(self.copy);
+                    Some(chosen)
+                } else {
+                    None
+                }
             }
         }
     }
-    if wanted == 0 { Some(chosen) } else { None }
+
+    /// The choices of the first children that have one, those in reach first, until `half + 1` stand.
+    #[cycle(choose_for_copy_choose_in_row)]
+    fn choose_in_row(&self) -> Option<CopySet>
+        requires { 0 < self.now.height }
+        ensures { Is result (gather (choice self.now.quorum self.now.half (self.now.height - 1) (members self.now.reach.now)) (suc self.now.half) (near_first (members self.now.reach.now) (children self.now.half self.now.copy))) }
+    {
+        let mut chosen = CopySet::empty();
+        let mut wanted = self.half + 1;
+        for near in [true, false] {
+            for child in self.children() {
+                if wanted > 0 && self.reach.has(child) == near {
+                    let below = Choice {
+                        quorum: self.quorum,
+                        reach: self.reach,
+                        half: self.half,
+                        height: self.height - 1,
+                        copy: child,
+                    };
+                    if let Some(below) = below.choose_for_copy() {
+                        chosen.add_all(&below);
+                        wanted -= 1;
+                    }
+                }
+            }
+        }
+        if wanted == 0 { Some(chosen) } else { None }
+    }
 }
 
 /// The rule of a tree. A leaf holds either quorum if it is in the set. A larger subtree holds a write quorum if its
@@ -138,14 +115,18 @@ impl TreeRule {
         TreeRule { tree }
     }
 
-    fn choose(&self, quorum: Quorum, reach: &[u8], choice: &mut [u8]) -> Result<Chosen, RuleFault>
-        ensures { Chooses (tree_rule (self.now.tree.degree / 2) self.now.tree.height) quorum reach.now choice.old choice.new result }
+    /// The choice of the root.
+    fn choose_from_root(&self, quorum: Quorum, reach: &CopySet) -> Option<CopySet>
+        ensures { Is result (choice quorum (self.now.tree.degree / 2) self.now.tree.height (members reach.now) 1) }
     {
-        check_lengths(self.tree.copies(), reach, choice)?;
-        let half = (self.tree.degree() / 2) as usize;
-        let height = self.tree.height() as usize;
-        let set = choose_for_copy(quorum, &marked_set(reach), half, height, 1);
-        give(quorum, set, choice)
+        let root = Choice {
+            quorum,
+            reach,
+            half: (self.tree.degree() / 2) as usize,
+            height: self.tree.height() as usize,
+            copy: 1,
+        };
+        root.choose_for_copy()
     }
 }
 
@@ -158,11 +139,9 @@ impl Rule for TreeRule {
         self.tree.copies()
     }
 
-    fn choose_read(&self, reach: &[u8], choice: &mut [u8]) -> Result<Chosen, RuleFault> {
-        self.choose(Quorum::Read, reach, choice)
-    }
-
-    fn choose_write(&self, reach: &[u8], choice: &mut [u8]) -> Result<Chosen, RuleFault> {
-        self.choose(Quorum::Write, reach, choice)
+    fn choose(&self, quorum: Quorum, reach: &[u8], choice: &mut [u8]) -> Result<Chosen, RuleFault> {
+        check_lengths(self.tree.copies(), reach, choice)?;
+        let set = self.choose_from_root(quorum, &marked_set(reach));
+        give(quorum, set, choice)
     }
 }

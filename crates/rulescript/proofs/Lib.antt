@@ -1,1 +1,4 @@
-mod Ordering
+mod Asking
+mod Away
+mod Heads
+mod Mapping

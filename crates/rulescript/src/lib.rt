@@ -1,5 +1,8 @@
-//! Scripts: the lines of a text in their order, what is set up, and the calls.
+//! The larger language of scripts: beside `value` and `code`, `rule` sets up a rule, and `choose` asks it for a quorum.
 #![tactic(auto)]
 
-pub mod order;
-pub mod reading;
+pub mod answer;
+mod asked;
+pub mod language;
+pub mod line;
+pub mod rule;

@@ -1,3 +1,4 @@
 mod Counting
+pub mod Finding
+mod Gathering
 mod Ordering
-mod Turns

@@ -1,4 +1,4 @@
 pub mod Answers
-pub mod Lines
+pub mod Kinds
 pub mod Order
 pub mod Reading

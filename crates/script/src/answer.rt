@@ -1,59 +1,41 @@
-//! What the calls of a script answer, and how that is told.
-ghost use Rattle.std.specs.Prelude.{◌≡◌, ℕ, map, IfOk, Some};
-ghost use Rattle.faults.specs.Line.{refusal_text};
-ghost use Rattle.script.specs.Answers.{Sums, accepted, answer_text, answered, summary_text};
+//! What the calls of a script answer, and how many were accepted.
+ghost use Rattle.std.specs.Prelude.{◌≡◌, Bool, IfOk, Some};
+ghost use Rattle.std.specs.List.{AllZip};
+ghost use Rattle.script.specs.Answers.{Sums, summary_text};
 
-use super::line::Call;
-use faults::{Fault, Refusal};
 use std::alloc::{AllocError, Global};
 use std::fmt;
-use values::value::{Payloads, Value};
 
-/// The answer to a call.
-#[derive(Clone, Copy)]
-pub enum Answer {
-    Code(Result<Payloads, Refusal>),
+/// An answer that tells whether the call was accepted.
+pub trait Verdict {
+    ghost accepted: { Self → Bool };
+
+    /// Whether the call was accepted.
+    fn is_accepted(&self) -> bool
+        ensures { result ≡ accepted self.now };
 }
 
-impl fmt::Display for Answer {
-    ghost output = { λ a. Some (answer_text a) };
+/// A call that a rule answers. `answers` tells which rule answers what.
+pub trait Answerable<R> {
+    type Answer: Verdict + fmt::Display + Drop;
 
-    fn fmt<W: fmt::Write>(&self, f: &mut fmt::Formatter<W>) -> fmt::Result {
-        match *self {
-            Answer::Code(Ok(payloads)) => write!(f, "code: {payloads}"),
-            Answer::Code(Err(refusal)) => write!(f, "code: {refusal}"),
-        }
-    }
-}
+    ghost answers: { R → Self → Self.Answer → Type 0 };
 
-/// The answer to a call.
-pub fn answer_to<V: Value>(call: &Call<V>) -> Answer
-    ensures { result ≡ answered V.Value.coded call.now }
-{
-    match call {
-        Call::Code(Ok(value)) => Answer::Code(Ok(value.code())),
-        Call::Code(Err(fault)) => Answer::Code(Err(fault.refusal())),
-    }
+    /// The answer to this call.
+    fn answer(&self, heap: Global, rule: &R) -> Result<Self::Answer, AllocError>
+        ensures { IfOk result (answers rule.now self.now) };
 }
 
 /// The answers to the calls, in order.
-pub fn answers_to<V: Value>(heap: Global, calls: &[Call<V>]) -> Result<Vec<Answer>, AllocError>
-    ensures { IfOk result (λ v. v.items ≡ map (answered V.Value.coded) calls.now) }
+pub fn answers_to<R, C: Answerable<R>>(
+    heap: Global,
+    rule: &R,
+    calls: &[C],
+) -> Result<Vec<C::Answer>, AllocError>
+    ensures { IfOk result (λ v. AllZip (C.answers rule.now) calls.now v.items) }
 {
-    let mut answers = Vec::new(heap);
-    for call in calls {
-        answers.push(answer_to(call))?;
-    }
-    Ok(answers)
-}
-
-/// Whether the call was accepted.
-fn is_accepted(answer: &Answer) -> bool
-    ensures { result ≡ accepted answer.now }
-{
-    match answer {
-        Answer::Code(result) => result.is_ok(),
-    }
+    let answer = |call: &C| call.answer(heap, rule);
+    calls.iter().map(answer).try_collect(heap)
 }
 
 /// How many calls were made, accepted and refused.
@@ -76,18 +58,14 @@ impl fmt::Display for Summary {
 }
 
 /// The summary of these answers.
-pub fn summary_of(answers: &[Answer]) -> Summary
-    ensures { Sums answers.now result }
+pub fn summary_of<A: Verdict>(answers: &[A]) -> Summary
+    ensures { Sums A.accepted answers.now result }
 {
-    let mut accepted = 0;
-    for answer in answers {
-        if is_accepted(answer) {
-            accepted += 1;
-        }
-    }
+    let calls = answers.len();
+    let accepted = answers.iter().filter(|answer| answer.is_accepted()).count();
     Summary {
-        calls: answers.len(),
+        calls,
         accepted,
-        refused: answers.len() - accepted,
+        refused: calls - accepted,
     }
 }

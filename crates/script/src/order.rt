@@ -1,8 +1,10 @@
 //! The lines of a script one after the other: which are bad, what is set up, and the calls in order.
 ghost use Rattle.std.specs.Prelude.{◌≡◌, ℕ, [], ◌++◌, IfOk, Some, codes, decimal};
-ghost use Rattle.script.specs.Order.{any, bad_lines, call_in, calls_of, cause_text, fault_at, is_call, kind_in, kind_of, line_fault, same_setup, sets_same, setup_fault};
+ghost use Rattle.std.specs.List.{list_any};
+ghost use Rattle.script.specs.Order.{bad_lines, call_in, calls_of, cause_text, fault_at, is_call, kind_in, kind_of, line_fault, sets_same, setup_fault};
 
-use super::line::{Call, Kind, Line, Setup};
+use super::kind::Kind;
+use super::line::{Line, SetsUp};
 use std::alloc::{AllocError, Global};
 use std::fmt;
 
@@ -47,78 +49,50 @@ impl fmt::Display for BadLine {
 }
 
 /// Whether the line is a call.
-fn is_call<V>(line: &Option<Line<V>>) -> bool
+fn is_call<S, C>(line: &Option<Line<S, C>>) -> bool
     ensures { result ≡ is_call line.now }
 {
     matches!(line, Some(Line::Call(_)))
 }
 
-/// Whether the two set up the same thing.
-fn same_setup(one: Setup, other: Setup) -> bool
-    ensures { result ≡ same_setup one other }
-{
-    match (one, other) {
-        (Setup::Value(_), Setup::Value(_)) => true,
-    }
-}
-
 /// Whether the line sets up the same thing.
-fn sets_same<V>(setup: Setup, line: &Option<Line<V>>) -> bool
-    ensures { result ≡ sets_same setup line.now }
+fn sets_same<S: SetsUp, C>(setup: &S, line: &Option<Line<S, C>>) -> bool
+    ensures { result ≡ sets_same S.same setup.now line.now }
 {
     match line {
-        Some(Line::Setup(other)) => same_setup(setup, *other),
+        Some(Line::Setup(other)) => setup.is_same(other),
         _ => false,
     }
 }
 
 /// Whether one of the lines is a call.
-fn any_call<V>(lines: &[Option<Line<V>>]) -> bool
-    ensures { result ≡ any is_call lines.now }
+fn any_call<S, C>(lines: &[Option<Line<S, C>>]) -> bool
+    ensures { result ≡ list_any is_call lines.now }
 {
-    for line in lines {
-        if is_call(line) {
-            return true;
-        }
-    }
-    false
+    lines.iter().any(is_call)
 }
 
 /// Whether one of the lines sets up the same thing.
-fn any_setup<V>(lines: &[Option<Line<V>>], setup: Setup) -> bool
-    ensures { result ≡ any (sets_same setup) lines.now }
+fn any_setup<S: SetsUp, C>(lines: &[Option<Line<S, C>>], setup: &S) -> bool
+    ensures { result ≡ list_any (sets_same S.same setup.now) lines.now }
 {
-    for line in lines {
-        if sets_same(setup, line) {
-            return true;
-        }
-    }
-    false
+    lines.iter().any(|line| sets_same(setup, line))
 }
 
 /// What is wrong with a line after the lines before it, if anything is.
-fn fault_at<V>(before: &[Option<Line<V>>], line: &Option<Line<V>>) -> Option<Cause>
-    ensures { result ≡ fault_at before.now line.now }
+fn fault_at<S: SetsUp, C>(before: &[Option<Line<S, C>>], line: &Option<Line<S, C>>) -> Option<Cause>
+    ensures { result ≡ fault_at S.same before.now line.now }
 {
     match line {
         None => Some(Cause::Unreadable),
-        Some(line) => line_fault(before, line),
-    }
-}
-
-/// What is wrong with a line that can be read, if anything is.
-fn line_fault<V>(before: &[Option<Line<V>>], line: &Line<V>) -> Option<Cause>
-    ensures { result ≡ line_fault before.now line.now }
-{
-    match line {
-        Line::Setup(setup) => setup_fault(before, *setup),
-        Line::Nothing | Line::Call(_) => None,
+        Some(Line::Setup(setup)) => setup_fault(before, setup),
+        Some(Line::Nothing | Line::Call(_)) => None,
     }
 }
 
 /// What is wrong with setting this up after these lines, if anything is.
-fn setup_fault<V>(before: &[Option<Line<V>>], setup: Setup) -> Option<Cause>
-    ensures { result ≡ setup_fault before.now setup }
+fn setup_fault<S: SetsUp, C>(before: &[Option<Line<S, C>>], setup: &S) -> Option<Cause>
+    ensures { result ≡ setup_fault S.same before.now setup.now }
 {
     if any_call(before) {
         Some(Cause::Late)
@@ -130,12 +104,16 @@ fn setup_fault<V>(before: &[Option<Line<V>>], setup: Setup) -> Option<Cause>
 }
 
 /// The bad lines, in order.
-pub fn bad_lines<V>(heap: Global, lines: &[Option<Line<V>>]) -> Result<Vec<BadLine>, AllocError>
-    ensures { IfOk result (λ v. v.items ≡ bad_lines [] lines.now) }
+pub fn bad_lines<S: SetsUp, C>(
+    heap: Global,
+    lines: &[Option<Line<S, C>>],
+) -> Result<Vec<BadLine>, AllocError>
+    ensures { IfOk result (λ v. v.items ≡ bad_lines S.same [] lines.now) }
 {
+    // A loop, since what is wrong with a line depends on the lines before it.
     let mut bad = Vec::new(heap);
     for (i, line) in lines.iter().enumerate() {
-        if let Some(cause) = fault_at(&lines[0..i], line) {
+        if let Some(cause) = fault_at(&lines[..i], line) {
             bad.push(BadLine {
                 number: i + 1,
                 cause,
@@ -146,7 +124,7 @@ pub fn bad_lines<V>(heap: Global, lines: &[Option<Line<V>>]) -> Result<Vec<BadLi
 }
 
 /// The call that a line is, if it is one.
-fn call_in<V: Drop>(line: Option<Line<V>>) -> Option<Call<V>>
+fn call_in<S: Drop, C: Drop>(line: Option<Line<S, C>>) -> Option<C>
     ensures { result ≡ call_in line }
 {
     match line {
@@ -156,39 +134,28 @@ fn call_in<V: Drop>(line: Option<Line<V>>) -> Option<Call<V>>
 }
 
 /// The calls, in order.
-pub fn calls_of<V: Drop>(
+pub fn calls_of<S: Drop, C: Drop>(
     heap: Global,
-    lines: Vec<Option<Line<V>>>,
-) -> Result<Vec<Call<V>>, AllocError>
+    lines: Vec<Option<Line<S, C>>>,
+) -> Result<Vec<C>, AllocError>
     ensures { IfOk result (λ v. v.items ≡ calls_of lines.items) }
 {
-    let mut calls = Vec::new(heap);
-    for line in lines {
-        if let Some(call) = call_in(line) {
-            calls.push(call)?;
-        }
-    }
-    Ok(calls)
+    lines.into_iter().filter_map(call_in).collect(heap)
 }
 
 /// The kind of value that a line sets up, if it does.
-fn kind_in<V>(line: &Option<Line<V>>) -> Option<Kind>
-    ensures { result ≡ kind_in line.now }
+fn kind_in<S: SetsUp, C>(line: &Option<Line<S, C>>) -> Option<Kind>
+    ensures { result ≡ kind_in S.kind line.now }
 {
     match line {
-        Some(Line::Setup(Setup::Value(kind))) => Some(*kind),
+        Some(Line::Setup(setup)) => setup.value_kind(),
         _ => None,
     }
 }
 
 /// The kind of value that the lines set up first, else baselines.
-pub fn kind_of<V>(lines: &[Option<Line<V>>]) -> Kind
-    ensures { result ≡ kind_of lines.now }
+pub fn kind_of<S: SetsUp, C>(lines: &[Option<Line<S, C>>]) -> Kind
+    ensures { result ≡ kind_of S.kind lines.now }
 {
-    for line in lines {
-        if let Some(kind) = kind_in(line) {
-            return kind;
-        }
-    }
-    Kind::Baseline
+    lines.iter().find_map(kind_in).unwrap_or(Kind::Baseline)
 }

@@ -48,7 +48,7 @@ impl Baseline {
 impl Value for Baseline {
     const KIND: u32 = 1;
 
-    ghost kind = { 1 };
+    ghost KIND = { 1 };
 
     ghost empty = { blank_baseline };
 
@@ -59,10 +59,6 @@ impl Value for Baseline {
     ghost gives_back = { gives_back_lem coded_baseline baseline_apart };
 
     ghost own_payloads = { Prim.search rules };
-
-    fn kind_number() -> u32 {
-        Self::KIND
-    }
 
     fn blank() -> Baseline {
         Baseline {

@@ -50,7 +50,6 @@ impl fmt::Display for ValueFault {
     ghost output = { λ f. Some (refusal_text (told (value_line f))) };
 
     fn fmt<W: fmt::Write>(&self, f: &mut fmt::Formatter<W>) -> fmt::Result {
-        let refusal = self.refusal();
-        write!(f, "{refusal}")
+        write!(f, "{}", self.refusal())
     }
 }

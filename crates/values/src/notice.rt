@@ -70,7 +70,7 @@ impl Notice {
 impl Value for Notice {
     const KIND: u32 = 2;
 
-    ghost kind = { 2 };
+    ghost KIND = { 2 };
 
     ghost empty = { NoneInService };
 
@@ -82,14 +82,11 @@ impl Value for Notice {
 
     ghost own_payloads = { Prim.search rules };
 
-    fn kind_number() -> u32 {
-        Self::KIND
-    }
-
     fn blank() -> Notice {
         Notice::NoneInService
     }
 
+    // The first payload tells the sort of notice: 0, 1 and 2 are the numbers of the format.
     fn code(&self) -> Payloads {
         match *self {
             Notice::NoneInService => Payloads {

@@ -20,28 +20,24 @@ impl fmt::Display for Payloads {
     ghost output = { λ p. Some (payloads_text p) };
 
     fn fmt<W: fmt::Write>(&self, f: &mut fmt::Formatter<W>) -> fmt::Result {
-        let first = self.first;
-        let second = self.second;
-        let third = self.third;
-        let fourth = self.fourth;
-        write!(f, "{first} {second} {third} {fourth}")
+        write!(
+            f,
+            "{} {} {} {}",
+            self.first, self.second, self.third, self.fourth
+        )
     }
 }
 
-/// A kind of value. `kind` is the kind number, `empty` the blank, and `coded` gives the payloads of a value.
+/// A kind of value. `KIND` is its number, `empty` the blank, and `coded` gives the payloads of a value.
 pub trait Value: Sized {
     /// The number of this kind of value.
     const KIND: u32;
 
-    ghost kind: { ℕ };
+    ghost KIND: { ℕ };
 
     ghost empty: { Self };
 
     ghost coded: { Self → Payloads };
-
-    /// The kind number, `KIND`.
-    fn kind_number() -> u32
-        ensures { result ≡ kind };
 
     /// The value that stands where nothing has been written yet.
     fn blank() -> Self

@@ -1,6 +1,8 @@
 -- What an image tells is the bank that it is the image of.
 use Rattle.std.proofs.Common.{◌≡◌, ℕ, ◌+◌, ◌*◌, ◌%◌, ◌<◌, ◌≤◌, Bool, true, false, cond, ◌&&◌, List, [], map, length, get_or, sym, refl, ap, ◌∙◌, arith, leb-true}
 use mathlib.Core.Path.{fun_ext}
+use Rattle.std.proofs.lemmas.Bool.Decides.{nat_tests}
+use Rattle.std.proofs.lemmas.List.{ext_get_or}
 use Rattle.std.proofs.lemmas.List.FromFn.{get_or-map-range_with_len, length-map-range_with_len}
 use Rattle.std.specs.List.{range_with_len}
 use Rattle.banks.proofs.Ranges.{and_left, and_right, entries_in, kind_in, stations_in, to_high}
@@ -9,7 +11,7 @@ use Rattle.banks.specs.Making.{no_record, no_station_there}
 use Rattle.banks.specs.Meaning.{Meaning}
 use Rattle.banks.specs.declared.record.Record.{Record}
 use Rattle.words.specs.Format.{head_word, image, image_word, imaged, payload_of, record_place, record_word, size, station_place, station_word, told_bank, told_entries, told_kind, told_reach, told_record, told_stations, word}
-use Rattle.words.proofs.Spots.{field_there, record_inside, station_inside, station_there}
+use Rattle.words.proofs.Spots.{Spot, field, field_there, head, record_inside, spot, station, station_inside, station_there}
 
 -- a bank that an image can keep: no station is shut, and there is nothing outside its sizes
 pub record Plain (b : Meaning) : Type 0 where
@@ -17,6 +19,9 @@ pub record Plain (b : Meaning) : Type 0 where
   pub limits : (s e : ℕ) → between 1 b.n s ≡ true → between 1 b.m e ≡ true → within (b.cell s e) ≡ true
   pub stations : (s : ℕ) → b.station s ≡ cond (between 1 b.n s) (record { reach = (b.station s).reach; shut = false }) no_station_there
   pub cells : (s e : ℕ) → (between 1 b.n s && between 1 b.m e) ≡ false → b.cell s e ≡ no_record
+
+pub plain_station : (a v : Bool) → cond a (record { reach = v; shut = false }) no_station_there ≡ cond a (record { reach = (cond a (record { reach = v; shut = false }) no_station_there).reach; shut = false }) no_station_there
+plain_station a v = grind (arith, nat_tests)
 
 module _ (b : Meaning) (ok : allowed b.kind b.n b.m ≡ true) where
   pub as_words : image b ≡ map (image_word b) (range_with_len 0 (size b.n b.m))
@@ -28,10 +33,27 @@ module _ (b : Meaning) (ok : allowed b.kind b.n b.m ≡ true) where
   pub word_at : (k : ℕ) → k < size b.n b.m → get_or (image b) k 0 ≡ image_word b k
   word_at k h = ap (λ l. get_or l k 0) as_words ∙ get_or-map-range_with_len (image_word b) 0 (size b.n b.m) k k 0 h (omega arith)
 
+  pub station_read : (s : ℕ) → between 1 b.n s ≡ true → get_or (image b) (station_place b.m s) 0 ≡ station_word s (b.station s).reach
+  station_read s hs = word_at (station_place b.m s) (station_inside b.n b.m s hs) ∙ station_there b s hs
+
+  pub field_read : (s e f : ℕ) → between 1 b.n s ≡ true → between 1 b.m e ≡ true → f < 5 → get_or (image b) (record_place b.m s e + f) 0 ≡ record_word e (b.cell s e) f
+  field_read s e f hs he hf = word_at (record_place b.m s e + f) (record_inside b.n b.m s hs e f he hf) ∙ field_there b s hs e f he hf
+
+  -- words with these at their places are the image
+  module _ (ws : List ℕ) (long : length ws ≡ size b.n b.m) (first : get_or ws 0 0 ≡ head_word b.kind b.n b.m)
+      (stations : (s : ℕ) → between 1 b.n s ≡ true → get_or ws (station_place b.m s) 0 ≡ station_word s (b.station s).reach)
+      (records : (s e f : ℕ) → between 1 b.n s ≡ true → between 1 b.m e ≡ true → f < 5 → get_or ws (record_place b.m s e + f) 0 ≡ record_word e (b.cell s e) f) where
+    at_spot : (k : ℕ) → Spot b.n b.m k → get_or ws k 0 ≡ image_word b k
+    at_spot k (head z) = ap (λ x. get_or ws x 0) z ∙ first ∙ sym (ap (image_word b) z)
+    at_spot k (station s hs z) = ap (λ x. get_or ws x 0) z ∙ stations s hs ∙ sym (station_there b s hs) ∙ sym (ap (image_word b) z)
+    at_spot k (field s e f hs he hf z) = ap (λ x. get_or ws x 0) z ∙ records s e f hs he hf ∙ sym (field_there b s hs e f he hf) ∙ sym (ap (image_word b) z)
+
+    pub image_by : ws ≡ image b
+    image_by = ext_get_or 0 ws (image b) (long ∙ sym length_image) (λ k h. at_spot k (spot b.n b.m k (omega (arith, long))) ∙ sym (word_at k (omega (arith, long))))
+
 -- what the words tell
 pub reach_told : (s : ℕ) (v : Bool) → told_reach (station_word s v) ≡ v
-reach_told s true = let odd : station_word s true % 2 ≡ 1 = omega arith in rw odd refl
-reach_told s false = let even : station_word s false % 2 ≡ 0 = omega arith in rw even refl
+reach_told s v = grind (arith, nat_tests)
 
 payload_told : (k p : ℕ) → payload_in p ≡ true → payload_of (word k p) ≡ p
 payload_told k p h = let small = leb-true p 268435455 h in omega arith
@@ -69,13 +91,13 @@ module _ (b : Meaning) (plain : Plain b) where
   station_told : (s : ℕ) (a : Bool) → between 1 b.n s ≡ a → cond a (record { reach = told_reach (get_or (image b) (station_place b.m s) 0); shut = false }) no_station_there ≡ cond a (record { reach = (b.station s).reach; shut = false }) no_station_there
   station_told s true h =
       ap (λ v. record { reach = v; shut = false })
-      (ap told_reach (word_at b plain.sized (station_place b.m s) (station_inside b.n b.m s h) ∙ station_there b s h) ∙ reach_told s (b.station s).reach)
+      (ap told_reach (station_read b plain.sized s h) ∙ reach_told s (b.station s).reach)
   station_told s false h = refl
 
   cell_told : (s e : ℕ) (a c : Bool) → between 1 b.n s ≡ a → between 1 b.m e ≡ c → cond (a && c) (told_record (image b) (record_place b.m s e)) no_record ≡ b.cell s e
   cell_told s e true true p q =
       record_told (b.cell s e) (plain.limits s e p q) (image b) (record_place b.m s e) e
-      (λ f h. word_at b plain.sized (record_place b.m s e + f) (record_inside b.n b.m s p e f q h) ∙ field_there b s p e f q h)
+      (λ f h. field_read b plain.sized s e f p q h)
   cell_told s e true false p q = sym (plain.cells s e (ap (λ t. t && between 1 b.m e) p ∙ q))
   cell_told s e false c p q = sym (plain.cells s e (ap (λ t. t && between 1 b.m e) p))
 

@@ -1,5 +1,5 @@
 -- The places of an image: which word stands where.
-use Rattle.std.proofs.Common.{◌≡◌, ℕ, zero, suc, ◌+◌, ◌-◌, ◌*◌, ◌/◌, ◌%◌, ◌<◌, true, refl, ap, ◌∙◌, subst, mod-lt, div-lt_iff_lt-mul, div-add-mod', arith}
+use Rattle.std.proofs.Common.{◌≡◌, ℕ, zero, suc, ◌+◌, ◌-◌, ◌*◌, ◌/◌, ◌%◌, ◌<◌, ◌≤◌, true, refl, ap, ◌∙◌, subst, mod-lt, div-lt_iff_lt-mul, div-add-mod', arith}
 use lib.Arith.{digits_div, digits_lt, digits_mod}
 use Rattle.banks.proofs.Ranges.{from_low, is_between, to_high}
 use Rattle.banks.specs.Limits.{between}
@@ -41,21 +41,30 @@ module _ (n m s : ℕ) (hs : between 1 n s ≡ true) where
       let a = from_low 1 n s hs in let b = to_high 1 n s hs in let c = from_low 1 m e he in let d = to_high 1 m e he in
       let lt = digits_lt {q = s - 1} {m = n} {r = suc ((e - 1) * 5) + f} {c = block m} (omega arith) (omega arith) in omega arith
 
+-- the digits of a place: of which station it is, and where in its block; of which record, and which of its words
+module _ {A : Type 0} (x : ℕ → ℕ → A) where
+  pub by_digits : (m s o : ℕ) → 1 ≤ s → o < block m → x (((s - 1) * block m + o) / block m + 1) (((s - 1) * block m + o) % block m) ≡ x s o
+  by_digits m s o low h = let same : s - 1 + 1 ≡ s = omega arith in rw (digits_div (s - 1) h, digits_mod (s - 1) h, same) refl
+
+  pub by_fields : (e f : ℕ) → 1 ≤ e → f < 5 → x (((e - 1) * 5 + f) / 5 + 1) (((e - 1) * 5 + f) % 5) ≡ x e f
+  by_fields e f low h =
+      let quotient : ((e - 1) * 5 + f) / 5 + 1 ≡ e = omega arith in
+      let left : ((e - 1) * 5 + f) % 5 ≡ f = omega arith in
+      rw (quotient, left) refl
+
 -- the words there
 module _ (b : Meaning) (s : ℕ) (hs : between 1 b.n s ≡ true) where
-  by_digits : (o : ℕ) → o < block b.m → image_word b (suc ((s - 1) * block b.m + o)) ≡ block_word s (b.station s) (b.cell s) o
-  by_digits o h =
-      let low = from_low 1 b.n s hs in
-      let same : s - 1 + 1 ≡ s = omega arith in
-      rw (digits_div (s - 1) h, digits_mod (s - 1) h, same) refl
+  low : 1 ≤ s
+  low = from_low 1 b.n s hs
+
+  abbrev word_in : ℕ → ℕ → ℕ
+  word_in t o = block_word t (b.station t) (b.cell t) o
 
   pub station_there : image_word b (station_place b.m s) ≡ station_word s (b.station s).reach
-  station_there = let zeroed : (s - 1) * block b.m ≡ (s - 1) * block b.m + 0 = omega arith in ap (λ k. image_word b (suc k)) zeroed ∙ by_digits 0 (omega arith)
+  station_there = let zeroed : (s - 1) * block b.m ≡ (s - 1) * block b.m + 0 = omega arith in ap (λ k. image_word b (suc k)) zeroed ∙ by_digits word_in b.m s 0 low (omega arith)
 
   pub field_there : (e f : ℕ) → between 1 b.m e ≡ true → f < 5 → image_word b (record_place b.m s e + f) ≡ record_word e (b.cell s e) f
   field_there e f he hf =
-      let low = from_low 1 b.m e he in let high = to_high 1 b.m e he in
+      let one = from_low 1 b.m e he in let high = to_high 1 b.m e he in
       let at : record_place b.m s e + f ≡ suc ((s - 1) * block b.m + suc ((e - 1) * 5 + f)) = omega arith in
-      let div : ((e - 1) * 5 + f) / 5 + 1 ≡ e = omega arith in
-      let left : ((e - 1) * 5 + f) % 5 ≡ f = omega arith in
-      ap (image_word b) at ∙ by_digits (suc ((e - 1) * 5 + f)) (omega arith) ∙ rw (div, left) refl
+      ap (image_word b) at ∙ by_digits word_in b.m s (suc ((e - 1) * 5 + f)) low (omega arith) ∙ by_fields (λ d g. record_word d (b.cell s d) g) e f one hf

@@ -1,28 +1,15 @@
 -- Which words are an image.
-use Rattle.std.specs.Prelude.{◌≡◌, ℕ, zero, suc, ◌+◌, ◌*◌, ◌/◌, ◌%◌, Bool, true, false, not, ◌&&◌, List, ◌∷◌, map, length, Option, ◌==◌, slice_index}
+use Rattle.std.specs.Prelude.{◌≡◌, ℕ, ◌%◌, Bool, false, not, ◌&&◌, List, ◌∷◌, map, length, Option, ◌==◌, slice_index}
 use Rattle.std.specs.List.{range_with_len}
 use Rattle.banks.specs.Calls.{Cause, first}
 use Rattle.banks.specs.Limits.{allowed}
 use Rattle.banks.specs.declared.fault.BankFault.{BankFault}
 use Rattle.banks.specs.declared.fault.BankFault.TheVariants.{Length, Word}
-use Rattle.words.specs.Format.{block, image_word, imaged, kind_of, size, told_entries, told_kind, told_stations, word}
+use Rattle.words.specs.Format.{image_word, imaged, kind_of, size, told_entries, told_kind, told_stations}
 
 -- the word at a place is the one due there, for what the words tell, and tells no number 0
 abbrev pub due : List ℕ → ℕ → Bool
 due ws k = slice_index ws k == image_word (imaged ws) k && not (kind_of (slice_index ws k) == 3 && slice_index ws k % 65536 == 0)
-
--- the same by the word alone: which words can stand where, with m entries, the first place left out
-abbrev pub field_fits : ℕ → ℕ → ℕ → Bool
-field_fits e zero w = w == word 3 (e * 65536 + w % 65536) && not (w % 65536 == 0)
-field_fits e (suc f) w = kind_of w == 4 + f
-
-abbrev pub offset_fits : ℕ → ℕ → ℕ → Bool
-offset_fits s zero w = w == word 2 (s * 2 + w % 2)
-offset_fits s (suc q) w = field_fits (q / 5 + 1) (q % 5) w
-
-abbrev pub fits_at : ℕ → ℕ → ℕ → Bool
-fits_at m zero w = true
-fits_at m (suc j) w = offset_fits (j / block m + 1) (j % block m) w
 
 abbrev pub no_words : List ℕ → Cause
 no_words ws = record { met = (length ws == 0); told = Length 1 }

@@ -1,18 +1,12 @@
-use Rattle.std.proofs.Common.{sym, arith}
-use Rattle.std.proofs.lemmas.Bool.Decides.{nat_tests}
+use Rattle.std.proofs.Common.{◌≡◌, ◌+◌, length, true, false, sym, ◌∙◌, rules, arith}
+use Rattle.std.proofs.lemmas.Iterator.{first_from_Range}
+use Rattle.places.specs.Places.{right}
+use Rattle.places.proofs.Walks.{first_stop, named_once}
 use Rattle.places.proofs.first_wrong.Goals as goal
-use Rattle.places.proofs.Walks.{named_once, wrong_end, wrong_found, wrong_passed}
-
-pub returns-then-not-is_right : goal.returns-then-not-is_right
-returns-then-not-is_right c = record {
-  wrong = wrong_found c.args.places.now c.loop-i.i c.loop-i.invariant c.loop-i-test.true (sym c.if-not-is_right.ensures);
-  once = λ e. absurd (grind (arith, nat_tests));
-}
-
-pub loop-i-preserved : goal.loop-i-preserved
-loop-i-preserved c = wrong_passed c.args.places.now c.loop-i.i c.loop-i.invariant c.loop-i-test.true (sym c.if-not-is_right.ensures)
 
 pub returns : goal.returns
 returns c =
-    let none = wrong_end c.args.places.now c.loop-i.i c.loop-i.invariant c.loop-i-test.false in
-    record { wrong = none; once = λ e. named_once c.args.places.now (sym none) }
+    let ps = c.args.places.now in
+    let stops = first_from_Range _ _ _ c.find.result (λ k. right ps k ≡ false) (λ k. right ps k ≡ true) c.find.ensures.ran (λ x q k. search rules) (λ x q k. (search rules, search rules)) in
+    let wrong = first_stop (right ps) (length ps) 1 (length ps + 1) (omega arith) c.find.result stops in
+    record { wrong = wrong; once = λ e. named_once ps (sym wrong ∙ e) }

@@ -1,13 +1,7 @@
-use Rattle.std.proofs.Common.{[], get_or, vec_items, sym, subst, arith, rules}
+use Rattle.std.proofs.Common.{get_or, vec_items, arith, rules}
 use Rattle.numbers.specs.Written.{Whole}
-use Rattle.std.proofs.lemmas.List.{take_all}
-use Rattle.std.proofs.lemmas.Result.{IfOk-from_err}
-use Rattle.notation.specs.Words.{Wholes, texts}
 use Rattle.notation.specs.Meanings.{length_texts, to_ref, wholes_at, wholes_length, wholes_more}
 use Rattle.notation.proofs.words.read_list.Goals as goal
-
-pub loop-word-init : goal.loop-word-init
-loop-word-init c = subst (Wholes []) (sym c.new-numbers.ensures.items) tt
 
 pub returns-in_default : goal.returns-in_default
 returns-in_default c v h =
@@ -16,12 +10,6 @@ returns-in_default c v h =
     let is = wholes_at _ (vec_items v) h i (omega (arith, wholes_length _ (vec_items v) h, length_texts c.args.words.now)) in
     c.in_default.ensures n is.1 (to_ref (λ w. Whole w n) c.args.words.now i _ (omega arith) is.0)
 
-pub returns-in_err-push : goal.returns-in_err-push
-returns-in_err-push c = IfOk-from_err c.from_residual.result _ c.from_residual.ensures.0
-
 pub loop-word-preserved : goal.loop-word-preserved
 loop-word-preserved c =
     wholes_more c.args.words.now c.loop-word.word-index _ _ _ c.in-Some.number c.loop-word-test.true c.loop-word.invariant (c.in-Some.ensures, search rules) c.in_ok-push.ensures.items
-
-pub returns : goal.returns
-returns c = subst (λ ws. Wholes (texts ws) (vec_items c.loop-word.numbers)) (take_all c.loop-word.word-index c.args.words.now c.loop-word-test.false) c.loop-word.invariant

@@ -1,17 +1,10 @@
 use Rattle.std.proofs.Common.{vec_items, ap, ◌∙◌}
-use Rattle.banks.proofs.Causes.{station_found}
-use Rattle.banks.specs.Calls.{fetched}
-use Rattle.places.specs.Places.{place_of}
-use Rattle.placement.specs.Placing.{placing, retold_answer}
+use Rattle.placement.specs.Placing.{retold_answer}
 use Rattle.placement.proofs.PlacementBank.fetch.Goals as goal
-use Rattle.placement.specs.Placings.{fetched_here}
+use Rattle.placement.specs.Placings.{fetched_below}
 
 pub returns : goal.returns
 returns g c =
     let p = c.args.self.now in
-    let places = vec_items p.places in
-    let b = g.B.Bank.meaning p.inner in
     let s = c.args.station in
-    let found = station_found (placing places b).n s (place_of places s) c.in_ok-below.below c.in_ok-below.ensures in
-    let e = c.args.entry in
-    c.tell.ensures ∙ ap (retold_answer s) (c.fetch.ensures ∙ ap (λ t. fetched b t e) found.1) ∙ fetched_here places b s found.0 e
+    c.tell.ensures ∙ ap (retold_answer s) c.fetch.ensures ∙ fetched_below (vec_items p.places) (g.B.Bank.meaning p.inner) s c.in_ok-below.below c.in_ok-below.ensures c.args.entry

@@ -1,9 +1,8 @@
-use Rattle.std.proofs.Common.{◌≡◌, Bool, true, false, cond, [], ◌∷◌, ◌++◌, length, sym, refl, ap, ◌∙◌, arith}
+use Rattle.std.proofs.Common.{◌≡◌, ℕ, ◌+◌, Bool, true, false, cond, length, sym, refl, ap, ◌∙◌, arith}
 use mir.Val.{bool_byte}
 use Rattle.std.proofs.lemmas.List.{take_all, take_more_set}
-use Rattle.families.specs.Copies.{marks}
+use Rattle.std.proofs.lemmas.List.FromFn.{map-range_with_len_more}
 use Rattle.quorum.specs.Sets.{members}
-use Rattle.quorum.proofs.Marked.{marks_more}
 use Rattle.quorum.proofs.marks.fill_marks.Goals as goal
 
 byte_is : (b : Bool) → bool_byte b ≡ cond b 1 0
@@ -13,13 +12,12 @@ byte_is false = refl
 pub loop-i-preserved : goal.loop-i-preserved
 loop-i-preserved c =
     let i = c.loop-i.i in
-    let s = members c.args.set.now in
+    let mark : ℕ → ℕ = λ k. cond (members c.args.set.now k) 1 0 in
+    let written : c.from.result ≡ mark (i + 1) = c.from.ensures ∙ byte_is c.has.result ∙ ap (λ b. cond b 1 0) c.has.ensures.member in
     take_more_set c.loop-i.choice i c.from.result (omega arith)
-    ∙ ap (λ l. l ++ (c.from.result ∷ [])) c.loop-i.invariant
-    ∙ ap (λ v. marks i s ++ (v ∷ [])) (c.from.ensures ∙ byte_is c.has.result ∙ ap (λ b. cond b 1 0) c.has.ensures)
-    ∙ sym (marks_more i s)
+    ∙ rw (c.loop-i.invariant, written) (sym (map-range_with_len_more mark 1 i (i + 1) (omega arith)))
 
 pub returns : goal.returns
 returns c =
     let all : c.loop-i.i ≡ length c.args.choice.now = omega arith in
-    sym (take_all c.loop-i.i c.loop-i.choice (omega arith)) ∙ c.loop-i.invariant ∙ ap (λ n. marks n (members c.args.set.now)) all
+    rw (← all) (sym (take_all c.loop-i.i c.loop-i.choice (omega arith)) ∙ c.loop-i.invariant)

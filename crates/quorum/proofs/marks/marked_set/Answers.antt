@@ -1,7 +1,7 @@
 use Rattle.std.proofs.Common.{◌≡◌, ◌+◌, ◌||◌, eqb, length, ap, ◌∙◌, subst, arith}
 use Rattle.families.specs.Copies.{marked}
 use Rattle.quorum.specs.Sets.{Same, members}
-use Rattle.quorum.proofs.Marked.{marked_no, marked_none, marked_yes}
+use Rattle.quorum.proofs.Marking.{marked_no, marked_none, marked_yes}
 use Rattle.quorum.proofs.marks.marked_set.Goals as goal
 use Rattle.quorum.proofs.marks.marked_set.Goals.{else-mark-ne0, then-mark-ne0}
 

@@ -1,20 +1,30 @@
-use Rattle.std.proofs.Common.{◌≡◌, ◌+◌, ◌<◌, get_or, drop, sym, ◌∙◌, add-zero, arith}
-use Rattle.std.proofs.lemmas.List.{drop_all, drop_more}
+use Rattle.std.proofs.Common.{◌≡◌, ℕ, suc, ◌+◌, ◌*◌, ◌<◌, ◌≤◌, List, [], ◌∷◌, length, get_or, refl, sym, ap, ◌∙◌, arith, rules}
+use Rattle.std.specs.List.{sum_by}
+use Rattle.std.proofs.lemmas.List.Sums.{sum_by-cons}
+use Rattle.std.proofs.iter.runs.Sources.{sums}
+use Rattle.std.proofs.lemmas.Iterator.{YieldsList-from_map, YieldsList-from_slice}
+use Rattle.std.proofs.lemmas.Iterator.Consumers.{sum_by_from_yields_List}
 use Rattle.families.specs.Copies.{everything}
-use Rattle.families.specs.Votes.{total, votes_from}
+use Rattle.families.specs.Votes.{votes_from}
 use Rattle.quorum.proofs.votes_rule.total.Goals as goal
 
-pub loop-vote-preserved : goal.loop-vote-preserved
-loop-vote-preserved c =
-    let votes = c.args.votes.now in
-    let i = c.loop-vote.vote-index in
-    let g : c.loop-vote.sum + (get_or votes i 0 + votes_from (i + 1 + 1) (drop (i + 1) votes) everything) ≡ total votes =
-    rw (drop_more votes i 0 c.loop-vote-test.true) at c.loop-vote.invariant.0
-    in
-    let byte : get_or votes i 0 < 256 = (c.type_inv.votes i).fits in
-    (omega (arith, g, c.from-sum.ensures), omega (arith, c.loop-vote.invariant.1, c.from-sum.ensures, byte))
+votes_from-everything : (n : ℕ) (votes : List ℕ) → votes_from n votes everything ≡ sum_by (λ v. v) votes
+votes_from-everything n [] = refl
+votes_from-everything n (v ∷ votes) = ap (λ m. v + m) (votes_from-everything (n + 1) votes) ∙ sym (sum_by-cons (λ v. v) v votes)
+
+sum_by-small : (votes : List ℕ) → ((k : ℕ) → get_or votes k 0 < 256) → sum_by (λ v. v) votes ≤ 255 * length votes
+sum_by-small [] small = omega arith
+sum_by-small (v ∷ votes) small =
+    let first : v < 256 = small 0 in
+    omega (arith, sum_by-small votes (λ k. small (suc k)), sum_by-cons (λ v. v) v votes)
+
+pub sum-requires-clause-fits : goal.sum-requires-clause-fits
+sum-requires-clause-fits c = search (rules, sums)
 
 pub returns : goal.returns
 returns c =
     let votes = c.args.votes.now in
-    (sym (add-zero _) ∙ (rw (drop_all c.loop-vote.vote-index votes c.loop-vote-test.false) at c.loop-vote.invariant.0), omega (arith, c.loop-vote.invariant.1, c.loop-vote.auto.vote-index-end, c.requires))
+    let all : c.sum.result ≡ sum_by (λ v. v) votes =
+    sum_by_from_yields_List (λ v. v) votes c.map.result c.sum.result c.sum.ensures.ran
+    (YieldsList-from_map _ (λ v. v) (YieldsList-from_slice votes cc) c.map.ensures.closure (λ x r q k. search rules)) in
+    (all ∙ sym (votes_from-everything 1 votes), omega (arith, all, sum_by-small votes (λ k. (c.type_inv.votes k).fits), c.requires))

@@ -4,4 +4,4 @@ use Rattle.script.proofs.order.bad_lines.Given as goal
 
 -- the bad lines so far, and those that are left, are all
 abbrev pub invariant-loop-i : goal.invariant-loop-i
-invariant-loop-i g l = bad_lines [] l.lines ≡ vec_items l.bad ++ bad_lines (take l.i l.lines) (drop l.i l.lines)
+invariant-loop-i g l = bad_lines g.S.SetsUp.same [] l.lines ≡ vec_items l.bad ++ bad_lines g.S.SetsUp.same (take l.i l.lines) (drop l.i l.lines)

@@ -1,13 +1,10 @@
-use Rattle.script.proofs.Ordering.{kind_end, kind_found, kind_passed}
+use Rattle.std.proofs.Common.{◌≡◌, refl, sym, ◌∙◌, rules}
+use Rattle.script.specs.Order.{kind_in}
+use Rattle.script.specs.declared.kind.Kind.TheVariants.{Baseline}
+use Rattle.script.proofs.Finding.{first_found, option_same}
 use Rattle.script.proofs.order.kind_of.Goals as goal
 
-pub returns-in-Some : goal.returns-in-Some
-returns-in-Some g c =
-    kind_found c.args.lines.now c.loop-line.line-index c.loop-line.invariant c.line-item.result c.loop-line-test.true c.line-item.is c.in-Some.kind c.in-Some.ensures
-
-pub loop-line-preserved : goal.loop-line-preserved
-loop-line-preserved g c =
-    kind_passed c.args.lines.now c.loop-line.line-index c.loop-line.invariant c.line-item.result c.loop-line-test.true c.line-item.is c.in_default.ensures
-
 pub returns : goal.returns
-returns g c = kind_end c.args.lines.now c.loop-line.line-index c.loop-line.invariant c.loop-line-test.false
+returns g c =
+    let kinds = kind_in g.S.SetsUp.kind in
+    c.unwrap_or.ensures ∙ first_found (λ k. k) kinds Baseline _ _ _ _ _ Baseline refl c.iter.ensures.rest (λ _ _ _ _. refl) (λ x o k. (let e : o ≡ kinds x.now = search rules in sym e) ∙ option_same o) c.find_map.ensures.runs

@@ -1,29 +1,15 @@
-use Rattle.std.proofs.Common.{vec_items, subst}
-use Rattle.std.proofs.lemmas.Result.{IfOk-from_err}
-use Rattle.std.specs.Str.Iter.{lines_rest}
-use Rattle.script.specs.Lines.{Means}
-use Rattle.notation.specs.Words.{Tells, texts}
-use Rattle.script.proofs.Turns.{no_more, one_more}
+use Rattle.std.proofs.Common.{ap, subst, refl, ◌∙◌, rules}
+use Rattle.std.proofs.lemmas.Result.{IfOk-weaker}
+use Rattle.std.specs.Iterator.Adapters.{map_callee}
+use Rattle.std.specs.Str.Iter.{lines_rest, lines_steps}
+use Rattle.notation.specs.Cutting.{Lines}
+use Rattle.script.specs.Reading.{ReadsLine}
+use Rattle.script.proofs.Gathering.{related}
 use Rattle.script.proofs.reading.read_lines.Goals as goal
 
-pub returns-in_err-words : goal.returns-in_err-words
-returns-in_err-words g c = IfOk-from_err c.from_residual.result _ c.from_residual.ensures.0
-
-pub returns-in_err-push : goal.returns-in_err-push
-returns-in_err-push g c = IfOk-from_err c.from_residual-in_err-push.result _ c.from_residual-in_err-push.ensures.0
-
-pub loop-line-preserved : goal.loop-line-preserved
-loop-line-preserved g c =
-    let step = c.in-Some.ensures.steps in
-    let words = c.in_ok-words.ensures in (
-      tt,
-      tt,
-      one_more g.V.Written.written c.args.text.now (lines_rest c.loop-line.line-iterator) (vec_items c.loop-line.lines) c.loop-line.invariant.2
-          c.in-Some.line.now (lines_rest c.next.new.self) c.read_line.result (vec_items c.push.new.self)
-          step.0.0 step.0.2
-          (texts (vec_items c.in_ok-words.words), words, subst (λ ws. Tells (Means g.V.Written.written) (texts ws) c.read_line.result) c.as_slice.ensures.value c.read_line.ensures)
-          c.in_ok-push.ensures.items,
-    )
-
 pub returns : goal.returns
-returns g c = no_more g.V.Written.written c.args.text.now (lines_rest c.loop-line.line-iterator) (vec_items c.loop-line.lines) c.loop-line.invariant.2 c.in-None.ensures.steps.0.0
+returns g c =
+    let reads = ReadsLine g.L.Language.means in
+    let start = ap lines_rest c.map.ensures.source ∙ c.lines.ensures.rest in
+    IfOk-weaker c.try_collect.result _ _ (λ v k. (k.0, subst (λ t. Lines t k.0) start k.1, k.2))
+    (related lines_steps (λ l. l.now) (λ i ls. Lines (lines_rest i) ls) (λ s t k. k.0.0) (λ s t x ls k more. (lines_rest t, k.0.0, k.0.2, more)) _ (map_callee c.map.result) reads (λ x y q k. search rules) c.map.result c.try_collect.result refl c.try_collect.ensures.ran)

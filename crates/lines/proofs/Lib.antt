@@ -1,4 +1,0 @@
-mod Asking
-mod Away
-mod Heads
-mod Turns

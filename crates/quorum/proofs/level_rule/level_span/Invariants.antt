@@ -1,6 +1,0 @@
-use Rattle.std.proofs.Common.{◌≡◌}
-use Rattle.families.specs.Levels.{level_first, level_size}
-use Rattle.quorum.proofs.level_rule.level_span.Given as goal
-
-abbrev pub invariant-loop-level : goal.invariant-loop-level
-invariant-loop-level l = (l.first ≡ level_first l.half l._level) × (l.size ≡ level_size l.half l._level)

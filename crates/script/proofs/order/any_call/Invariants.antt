@@ -1,7 +1,0 @@
-use Rattle.std.proofs.Common.{◌≡◌, drop}
-use Rattle.script.specs.Order.{any, is_call}
-use Rattle.script.proofs.order.any_call.Given as goal
-
--- what is left decides
-abbrev pub invariant-loop-line : goal.invariant-loop-line
-invariant-loop-line g l = any is_call l.lines ≡ any is_call (drop l.line-index l.lines)
