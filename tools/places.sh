@@ -25,7 +25,7 @@ hits '4 a conversion by a name of its own' 'pub fn (new|get|read|payload|tenths|
 hits '4 a conversion by as' ' as [iu](8|16|32|64|size)\b'
 hits '5 a demand' '^ *requires'
 hits '6 an array, a part of one, a Vec in a struct' '\[[A-Za-z0-9_]+; [A-Z0-9a-z]+\]|\[0\.\.|^    (pub )?[a-z_]+: Vec<'
-hits '7 a switch on a parameter, a closure, a table' 'match (\*?field|quorum)|\bfn\(|\bdyn |impl Fn|: Fn'
+hits '7 a switch on a parameter, a closure, a table' 'match (\*?field|(self\.)?quorum)|\bfn\(|\bdyn |impl Fn|: Fn'
 printf '== 8 proofs: crate, files of answers, lines of proofs\n'
 if [ -n "$at" ]; then
     for c in $(git ls-tree -d --name-only "$at" crates/); do

@@ -19,7 +19,7 @@ use quorum::tree_rule::TreeRule;
 use quorum::votes_rule::VotesRule;
 use std::fmt;
 
-/// One of the three rules. Each of its calls is the rule's own.
+/// One of the three rules, under the names by which they are asked for.
 #[derive(Clone, Copy, PartialEq, Eq, Debug)]
 pub enum AnyRule {
     Tree(TreeRule),

@@ -15,6 +15,12 @@ use values::baseline::Baseline;
 use values::notice::Notice;
 use values::value::{Payloads, Value};
 
+const NONE: Sizes = Sizes {
+    kind: 0,
+    stations: 0,
+    entries: 0,
+};
+
 fn record(number: u32, first: u32, second: u32, third: u32, fourth: u32) -> Record {
     Record {
         number,
@@ -93,7 +99,7 @@ fn check_shut<B: Bank>(rt: &impl Abort, bank: &mut B, station: u32) -> Result<()
 
 /// The bank is empty.
 fn check_empty<B: Bank>(rt: &impl Abort, bank: &mut B) -> Result<(), Fail> {
-    assert_eq!(rt; bank.sizes(), Sizes::default());
+    assert_eq!(rt; bank.sizes(), NONE);
     assert_eq!(rt; bank.fetch(1, 1), Err(BankFault::NoStation(1)));
     assert_eq!(rt; bank.set_reach(1, true), Err(BankFault::NoStation(1)));
     Ok(())

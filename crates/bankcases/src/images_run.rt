@@ -143,7 +143,14 @@ fn words_that_are_refused_leave_an_empty_bank(rt: HostRuntime) -> Result<(), Fai
     let bank = ImageBank::from_words(words);
     assert_eq!(rt; bank.refusal(), Some(BankFault::Length(7)));
     assert_eq!(rt; bank.words().len(), 0);
-    assert_eq!(rt; bank.sizes(), Sizes::default());
+    assert_eq!(rt;
+        bank.sizes(),
+        Sizes {
+            kind: 0,
+            stations: 0,
+            entries: 0,
+        }
+    );
     assert_eq!(rt; bank.fetch(1, 1), Err(BankFault::NoStation(1)));
     let none = ImageBank::new::<Notice>(rt.alloc(), 65, 1)?;
     assert_eq!(rt; none.refusal(), Some(BankFault::Sizes));

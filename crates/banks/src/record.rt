@@ -129,8 +129,10 @@ impl Sizes {
             Err(BankFault::NoEntry(entry))
         }
     }
+
     /// Refuses what fetching and storing refuse of a station and an entry: a station that is none, an entry that is none, and
-    /// a station that is away, in this order. `reach` is what the bank answers about the reach of the station.
+    /// a station that is away, in this order. `reach` is what the bank answers about the reach of the station: a function over
+    /// every bank could not be called by a bank's own calls.
     pub fn check_call(
         &self,
         station: u32,

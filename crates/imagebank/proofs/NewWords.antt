@@ -16,7 +16,7 @@ use Rattle.words.proofs.Images.{given_back, length_image}
 use Rattle.words.proofs.Plains.{plain_new}
 use Rattle.words.proofs.Spots.{field_there, station_there}
 use Rattle.words.specs.Checking.{check_fault}
-use Rattle.words.specs.Format.{head_word, image, image_word, imaged, record_place, record_word, size, station_place, station_word}
+use Rattle.words.specs.Format.{image, image_word, imaged, record_place, record_word, size, station_place, station_word}
 use Rattle.imagebank.specs.Whole.{record_words, whole}
 use Rattle.imagebank.specs.Wholes.{whole_if}
 
@@ -41,9 +41,6 @@ put b (w ∷ ws) k h =
 module _ (kind : ℕ) (p : Payloads) (n m : ℕ) where
   abbrev b : Meaning
   b = new_bank kind p n m
-
-  pub first_put : head_word kind n m ∷ [] ≡ words_before b (station_place m 1)
-  first_put = let start : 1 ≡ station_place m 1 = omega arith in ap (words_before b) start
 
   module _ (s : ℕ) (hs : between 1 n s ≡ true) where
     pub station_put : words_before b (station_place m s) ++ (station_word s true ∷ []) ≡ words_before b (record_place m s 1)

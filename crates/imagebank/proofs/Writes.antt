@@ -1,12 +1,10 @@
 -- Reading and writing words, by the bank that they tell of.
-use Rattle.std.proofs.Common.{◌≡◌, ℕ, ◌+◌, ◌<◌, ◌≤◌, Bool, true, false, List, [], length, get_or, set, Some, None, Ok, Option, sym, refl, ap, ◌∙◌, arith}
-use Rattle.std.proofs.lemmas.Bool.Decides.{nat_tests}
-use Rattle.std.proofs.lemmas.List.{get_or_read}
+use Rattle.std.proofs.Common.{◌≡◌, ℕ, ◌+◌, ◌<◌, ◌≤◌, Bool, true, false, List, [], length, set, Some, None, Ok, Option, sym, refl, ap, ◌∙◌, arith}
 use Rattle.std.specs.Option.{is_some}
 use Rattle.std.specs.Result.{result_err}
 use Rattle.banks.proofs.Causes.{reach_done, store_done, there}
 use Rattle.banks.proofs.Ranges.{to_high}
-use Rattle.banks.specs.Calls.{answered, asked_reach, fetch_fault, reach_set, sizes_of, store_answer, stored}
+use Rattle.banks.specs.Calls.{answered, fetch_fault, reach_set, sizes_of, store_answer, stored}
 use Rattle.banks.specs.Limits.{between, within}
 use Rattle.banks.specs.declared.fault.BankFault.{BankFault}
 use Rattle.banks.specs.declared.record.Record.{Record}
@@ -16,9 +14,9 @@ use Rattle.words.proofs.Checks.{image_of_told}
 use Rattle.words.proofs.Images.{small}
 use Rattle.words.proofs.Plains.{unshut}
 use Rattle.words.specs.Checking.{check_fault}
-use Rattle.words.specs.Format.{five, image, imaged, record_place, record_word, station_place, station_word, told_reach}
+use Rattle.words.specs.Format.{five, image, imaged, record_place, record_word, station_place, station_word}
 use Rattle.imagebank.specs.Whole.{OfWords, whole}
-use Rattle.imagebank.specs.Wholes.{after_reach, after_store, plain, read_reach, record_in, station_in}
+use Rattle.imagebank.specs.Wholes.{after_reach, after_store, plain, record_in}
 
 module _ (ws : List ℕ) (sound : whole ws ≡ true) (s e : ℕ) (ok : Ok tt ≡ answered {A = Unit {0}} (fetch_fault (imaged ws) s e) tt) (z : Sizes) (is : z ≡ sizes_of (imaged ws)) (p : ℕ) (at_told : p ≡ record_place z.entries s e) where
   at : p ≡ record_place (imaged ws).m s e
@@ -38,12 +36,6 @@ module _ (ws : List ℕ) (sound : whole ws ≡ true) (s e : ℕ) (ok : Ok tt ≡
       let kept = after_store ws sound s here.0 e r here.1 fits in
       let done = store_done (imaged ws) s e r ok fits in
       (ap whole are ∙ kept.0, ap length put ∙ five_long ws p (record_word e r), done.0, ap imaged are ∙ kept.1 ∙ done.1)
-
-pub reach_read : (ws : List ℕ) → whole ws ≡ true → (s p w : ℕ) → between 1 (imaged ws).n s ≡ true → p ≡ station_place (imaged ws).m s → w ≡ get_or ws p w → Ok (told_reach w) ≡ asked_reach (imaged ws) s
-reach_read ws sound s p w here at read =
-    let inside : p < length ws = omega (arith, at, station_in ws sound s here) in
-    let is : told_reach w ≡ ((imaged ws).station s).reach = ap told_reach (get_or_read ws p w inside read 0) ∙ ap (λ k. told_reach (get_or ws k 0)) at ∙ read_reach ws sound s here in
-    grind (arith, nat_tests)
 
 pub reached : (ws : List ℕ) → whole ws ≡ true → (s p : ℕ) (v : Bool) → between 1 (imaged ws).n s ≡ true → p ≡ station_place (imaged ws).m s → (w : ℕ) → w ≡ station_word s v → (whole (set ws p w) ≡ true) × (imaged (set ws p w) ≡ reach_set (imaged ws) s v)
 reached ws sound s p v here at w is =

@@ -23,6 +23,7 @@ use words::word::{Kind, PAYLOADS};
 #[derive(Drop)]
 pub struct ImageBank {
     words: Vec<u32>,
+    // A bank whose making was refused stands, without words, and tells why.
     refusal: Option<BankFault>,
     ghost sound: { whole words.items ≡ true },
     ghost told: { is_none refusal ≡ not (vec_len words == 0) },
@@ -205,9 +206,7 @@ impl Bank for ImageBank {
         layout
             .sizes
             .check_call(station, entry, self.in_reach(station))?;
-        let Some(kept) = Kept::new(kept) else {
-            return Err(BankFault::OutOfLimits(entry));
-        };
+        let kept = Kept::new(kept).ok_or(BankFault::OutOfLimits(entry))?;
         let place = layout.place_of_record(station, entry);
         put_record(self.words.as_mut_slice(), place, entry, &kept);
         Ok(())

@@ -2,12 +2,10 @@
 use Rattle.std.proofs.Common.{◌≡◌, ℕ, zero, suc, ◌+◌, ◌*◌, ◌/◌, ◌%◌, ◌^◌, ◌<◌, ◌≤◌, List, [], ◌∷◌, ◌++◌, length, get_or, ℤ, pos, negsuc, neg_ℤ, nat_abs, Some, None, Ok, Err, decimal, Option, Result, sym, refl, ap, ◌∙◌, subst, inl, inr, arith, lit≤, length-append, w32, SFits, MatchOption, MatchResult}
 use native.Mathlib.Nat.{sub_self}
 use lib.Signed.{mag}
-use Rattle.std.specs.Str.Parse.{AllDigits, IsNumeral, ParsesUnsigned, digits_value}
-use Rattle.std.specs.Result.{result_ok}
+use Rattle.std.specs.Str.Parse.{AllDigits, IsNumeral, digits_value}
 use Rattle.std.specs.Char.{digit_value}
 use Rattle.std.proofs.lemmas.Fmt.{decimal_digit, decimal_is_IsNumeral}
 use Rattle.std.proofs.lemmas.List.{get_or-append_right}
-use Rattle.std.proofs.lemmas.Str.Parse.{without_leading_plus_none}
 use Rattle.numbers.specs.declared.tenths.Tenths.{Tenths}
 use Rattle.numbers.specs.Reads.{ReadsTenths}
 use Rattle.numbers.specs.declared.tenths.NotTenths.{NotTenths}
@@ -15,11 +13,6 @@ use Rattle.numbers.specs.Written.{Size, Whole, Writes, size_text, tenths_text}
 
 abbrev pub Reads : ℕ → List ℕ → ℕ → Type 0
 Reads radix bs n = IsNumeral radix bs × (n ≡ digits_value radix bs)
-
--- a reader that accepts a plus sign, at a text that has none
-pub reads_unsigned : {E : Type 0} (radix : ℕ) (bs : List ℕ) (r : Result ℕ E) → ParsesUnsigned 32 radix bs r → (get_or bs 0 0 ≡ 43 → ⊥) → MatchOption (result_ok r) (IsNumeral radix bs → digits_value radix bs < 2 ^ 32 → ⊥) (Reads radix bs)
-reads_unsigned radix bs (Ok n) h plain = let e = without_leading_plus_none bs plain in let k = rw e at h in (k.0.0, k.1)
-reads_unsigned radix bs (Err e) h plain = let q = without_leading_plus_none bs plain in let k = rw q at h in λ a b. k (a, b)
 
 -- c stands nowhere in bs
 abbrev pub Lacks : ℕ → List ℕ → Type 0
@@ -150,9 +143,3 @@ abs_neg (suc n) = refl
 pub abs_small : (z : ℤ) → SFits w32 z → nat_abs z < 2 ^ 32
 abs_small (pos n) fits = omega (arith, fits.sfits)
 abs_small (negsuc n) fits = omega (arith, fits.sfits)
-
--- a list of one element
-pub single : (bs : List ℕ) (x : ℕ) → length bs ≡ 1 → get_or bs 0 0 ≡ x → bs ≡ x ∷ []
-single [] x l e = absurd (omega (arith, l))
-single (b ∷ []) x l e = cc
-single (b ∷ (c ∷ bs)) x l e = absurd (omega (arith, l))

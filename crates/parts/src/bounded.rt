@@ -3,7 +3,8 @@ ghost use Rattle.std.specs.Prelude.{◌≡◌, ◌≤◌, Some, decimal, MatchOp
 
 use std::fmt;
 
-/// A number from `LOW` to `HIGH`.
+/// A number from `LOW` to `HIGH`. Contracts see it with its range, and not as a plain number: laws on all values of a kind
+/// need the range.
 #[derive(Clone, Copy, PartialEq, Eq, Debug)]
 pub struct Bounded<const LOW: u32, const HIGH: u32> {
     number: u32,

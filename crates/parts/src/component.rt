@@ -6,7 +6,8 @@ ghost use Rattle.parts.specs.Parts.{component_in, component_payload};
 use numbers::tenths::Tenths;
 use std::fmt;
 
-/// A component of the field in tenths of a nanotesla, from −9,999,999 to 9,999,999.
+/// A component of the field in tenths of a nanotesla, from −9,999,999 to 9,999,999. Contracts see it with its range, as
+/// they see `Bounded`.
 #[derive(Clone, Copy, PartialEq, Eq, Debug)]
 pub struct Component {
     tenths: Tenths,

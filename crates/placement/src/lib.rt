@@ -17,6 +17,7 @@ use places::first_wrong;
 pub struct Placement<B> {
     inner: B,
     places: Vec<u32>,
+    // A layer over a wrong list stands, without stations, and tells which copy.
     wrong: Option<usize>,
     ghost tested: { wrong ≡ first_wrong places.items },
 }

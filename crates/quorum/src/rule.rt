@@ -21,7 +21,8 @@ pub trait Rule {
         ensures { result ≡ (meaning self.now).n };
 
     /// Fills the choice marks with 1 for each copy chosen for this quorum, and 0 for the rest. The reach marks are not 0
-    /// for the copies in reach; marks are bytes, since any other value than 0 counts alike. Refused where a list has another length, or the reach holds no such quorum.
+    /// for the copies in reach. Both lists are the caller's, one byte a copy. Refused where a list has another length, or
+    /// the reach holds no such quorum.
     fn choose(&self, quorum: Quorum, reach: &[u8], choice: &mut [u8]) -> Result<Chosen, RuleFault>
         ensures { Chooses (meaning self.now) quorum reach.now choice.old choice.new result };
 

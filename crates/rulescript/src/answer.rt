@@ -15,7 +15,7 @@ use std::alloc::{AllocError, Global};
 use std::fmt;
 use values::value::{Payloads, Value};
 
-/// The answer to a call.
+/// The answer to a call; `Code` is written out as in the smaller language, since its calls are.
 #[derive(Drop)]
 pub enum Answer {
     Code(Result<Payloads, Refusal>),
@@ -23,7 +23,7 @@ pub enum Answer {
     Choose(Quorum, Result<Vec<u32>, NoChoice>),
 }
 
-/// Writes the numbers, each after a space: a loop, since each step writes.
+/// Writes the numbers, each after a space: a loop, since a proof knows nothing of what a closure of `try_for_each` wrote.
 fn write_numbers<W: fmt::Write>(f: &mut fmt::Formatter<W>, numbers: &[u32]) -> fmt::Result
     ensures { WritesOnOk W.Write.write_str_gives f.old result (spaced numbers.now) f.new }
 {

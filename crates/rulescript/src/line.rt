@@ -12,7 +12,7 @@ use script::line::{Line, SetsUp};
 use std::alloc::{AllocError, Global};
 use values::fault::ValueFault;
 
-/// A line that sets something up, before the first call.
+/// A line that sets something up, before the first call; `Value` is written out as in the smaller language.
 #[derive(Drop)]
 pub enum Setup {
     Rule(RuleForm),

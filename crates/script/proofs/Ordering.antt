@@ -25,9 +25,6 @@ none_told bad n fault is = sym (append-nil bad) ∙ ap (λ f. bad ++ told_as n f
 
 -- the bad lines: those so far, and those that are left
 module _ {S C : Type 0} (same : S → S → Bool) (xs : List (Option (Line S C))) (i : ℕ) (bad : List BadLine) (all : bad_lines same [] xs ≡ bad ++ bad_lines same (take i xs) (drop i xs)) where
-  pub bad_end : length xs ≤ i → bad ≡ bad_lines same [] xs
-  bad_end h = sym (all ∙ ap (λ l. bad ++ l) (left_end (bad_lines same (take i xs)) xs i h) ∙ append-nil bad)
-
   pub bad_more : (x : Option (Line S C)) → i < length xs → x ≡ get_or xs i x → (fault : Option Cause) → fault ≡ fault_at same (take i xs) x → bad_lines same [] xs ≡ (bad ++ told_as (i + 1) fault) ++ bad_lines same (take (i + 1) xs) (drop (i + 1) xs)
   bad_more x here is fault e =
       let count : length (take i xs) ≡ i = simp length-take (omega arith) in

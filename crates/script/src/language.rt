@@ -18,6 +18,7 @@ pub trait Language {
     /// Why there is no such rule.
     type NoRule: fmt::Display + Drop;
 
+    /// What a line can call for.
     type Call: Answerable<Self::Rule> + Drop;
 
     ghost means: { List (List ℕ) → Line Self.Setup Self.Call → Type 0 };

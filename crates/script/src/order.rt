@@ -1,7 +1,7 @@
 //! The lines of a script one after the other: which are bad, what is set up, and the calls in order.
 ghost use Rattle.std.specs.Prelude.{◌≡◌, ℕ, [], ◌++◌, IfOk, Some, codes, decimal};
 ghost use Rattle.std.specs.List.{list_any};
-ghost use Rattle.script.specs.Order.{bad_lines, call_in, calls_of, cause_text, fault_at, is_call, kind_in, kind_of, line_fault, sets_same, setup_fault};
+ghost use Rattle.script.specs.Order.{bad_lines, call_in, calls_of, cause_text, fault_at, is_call, kind_in, kind_of, sets_same, setup_fault};
 
 use super::kind::Kind;
 use super::line::{Line, SetsUp};

@@ -78,7 +78,7 @@ impl TableBank {
         }
     }
 
-    /// Why the bank is empty, if its making was refused.
+    /// Why the bank is empty, if its making was refused: a refused bank stands, without stations.
     pub fn refusal(&self) -> Option<BankFault>
         ensures { result ≡ table_refusal self.now.sizes }
     {

@@ -4,15 +4,9 @@ use Rattle.banks.specs.Limits.{between}
 use Rattle.banks.specs.Making.{new_bank}
 use Rattle.words.proofs.Images.{as_words}
 use Rattle.words.specs.Format.{record_place, station_place}
-use Rattle.imagebank.proofs.NewWords.{all_done, first_put, is_first, last_put, record_put, station_put, words_before}
+use Rattle.imagebank.proofs.NewWords.{all_done, is_first, last_put, record_put, station_put, words_before}
 use Rattle.imagebank.proofs.new_words.Goals as goal
 use Rattle.imagebank.proofs.new_words.Goals.{else-loop-station-test, then-loop-station-test+in_ok-push-2+else-station-station-end, else-loop-entry-test, then-loop-entry-test+in_ok-extend_from_slice+else-entry-entry-end}
-
-pub loop-station-init : goal.loop-station-init
-loop-station-init c =
-    let z = c.args.sizes.now in
-    let e = first_put z.kind c.args.first.now.plain.payloads z.stations z.entries in
-    c.in_ok-push.ensures.items ∙ ap (λ l. l ++ (c.first_word.result ∷ [])) c.new-words.ensures.items ∙ ap (λ w. w ∷ []) c.first_word.ensures ∙ e
 
 pub loop-entry-init : goal.loop-entry-init
 loop-entry-init c =

@@ -1,4 +1,4 @@
-use Rattle.std.proofs.Common.{length, Err, vec_items, ap, ◌∙◌, arith}
+use Rattle.std.proofs.Common.{◌≡◌, length, Err, vec_items, ap, ◌∙◌, arith}
 use Rattle.banks.proofs.Causes.{store_refused}
 use Rattle.banks.specs.Calls.{store_answer, stored}
 use Rattle.std.proofs.lemmas.List.{with_items_is}
@@ -28,8 +28,8 @@ invariant_of-self c =
     let b = c.args.self.now in
     let ws = vec_items b.words in
     let ok = c.in_ok-check_call.ensures (imaged ws) c.layout-layout.ensures c.in_reach.ensures in
-    let put = c.put_record.ensures ∙ ap (λ l. five l c.place_of_record-place.result (record_word c.args.entry c.in-Some.kept.plain)) c.as_mut_slice.ensures.value in
-    let done = written ws b.sound c.args.station c.args.entry ok _ c.layout-layout.ensures _ c.place_of_record-place.ensures c.in-Some.kept.plain c.in-Some.kept.fits _ put in
+    let put = c.put_record.ensures ∙ ap (λ l. five l c.place_of_record-place.result (record_word c.args.entry c.in_ok-kept.kept.plain)) c.as_mut_slice.ensures.value in
+    let done = written ws b.sound c.args.station c.args.entry ok _ c.layout-layout.ensures _ c.place_of_record-place.ensures c.in_ok-kept.kept.plain c.in_ok-kept.kept.fits _ put in
     record { sound = ap whole (with_items_is b.words c.put_record.new.words (omega (arith, done.1, b.words.ok.0))) ∙ done.0; told = b.told }
 
 pub returns : goal.returns
@@ -38,9 +38,10 @@ returns c =
     let ws = vec_items b.words in
     let s = c.args.station in let e = c.args.entry in
     let ok = c.in_ok-check_call.ensures (imaged ws) c.layout-layout.ensures c.in_reach.ensures in
-    let put = c.put_record.ensures ∙ ap (λ l. five l c.place_of_record-place.result (record_word e c.in-Some.kept.plain)) c.as_mut_slice.ensures.value in
-    let done = written ws b.sound s e ok _ c.layout-layout.ensures _ c.place_of_record-place.ensures c.in-Some.kept.plain c.in-Some.kept.fits _ put in
+    let put = c.put_record.ensures ∙ ap (λ l. five l c.place_of_record-place.result (record_word e c.in_ok-kept.kept.plain)) c.as_mut_slice.ensures.value in
+    let same : c.in_ok-kept.kept.plain ≡ c.args.kept = rw c.in_ok-kept.ensures.ok_part at c.new.ensures in
+    let done = written ws b.sound s e ok _ c.layout-layout.ensures _ c.place_of_record-place.ensures c.in_ok-kept.kept.plain c.in_ok-kept.kept.fits _ put in
     record {
-      answer = done.2 ∙ ap (store_answer (imaged ws) s e) c.in-Some.ensures;
-      after = ap imaged (with_items_is b.words c.put_record.new.words (omega (arith, done.1, b.words.ok.0))) ∙ done.3 ∙ ap (stored (imaged ws) s e) c.in-Some.ensures;
+      answer = done.2 ∙ ap (store_answer (imaged ws) s e) same;
+      after = ap imaged (with_items_is b.words c.put_record.new.words (omega (arith, done.1, b.words.ok.0))) ∙ done.3 ∙ ap (stored (imaged ws) s e) same;
     }

@@ -1,6 +1,6 @@
-use Rattle.std.proofs.Common.{◌≡◌, ℕ, ◌+◌, Bool, true, false, cond, length, sym, refl, ap, ◌∙◌, arith}
+use Rattle.std.proofs.Common.{◌≡◌, ℕ, ◌+◌, Bool, true, false, cond, sym, refl, ap, ◌∙◌, arith}
 use mir.Val.{bool_byte}
-use Rattle.std.proofs.lemmas.List.{take_all, take_more_set}
+use Rattle.std.proofs.lemmas.List.{take_more_set}
 use Rattle.std.proofs.lemmas.List.FromFn.{map-range_with_len_more}
 use Rattle.quorum.specs.Sets.{members}
 use Rattle.quorum.proofs.marks.fill_marks.Goals as goal
@@ -16,8 +16,3 @@ loop-i-preserved c =
     let written : c.from.result ≡ mark (i + 1) = c.from.ensures ∙ byte_is c.has.result ∙ ap (λ b. cond b 1 0) c.has.ensures.member in
     take_more_set c.loop-i.choice i c.from.result (omega arith)
     ∙ rw (c.loop-i.invariant, written) (sym (map-range_with_len_more mark 1 i (i + 1) (omega arith)))
-
-pub returns : goal.returns
-returns c =
-    let all : c.loop-i.i ≡ length c.args.choice.now = omega arith in
-    rw (← all) (sym (take_all c.loop-i.i c.loop-i.choice (omega arith)) ∙ c.loop-i.invariant)

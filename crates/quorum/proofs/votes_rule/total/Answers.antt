@@ -1,7 +1,6 @@
 use Rattle.std.proofs.Common.{◌≡◌, ℕ, suc, ◌+◌, ◌*◌, ◌<◌, ◌≤◌, List, [], ◌∷◌, length, get_or, refl, sym, ap, ◌∙◌, arith, rules}
 use Rattle.std.specs.List.{sum_by}
 use Rattle.std.proofs.lemmas.List.Sums.{sum_by-cons}
-use Rattle.std.proofs.iter.runs.Sources.{sums}
 use Rattle.std.proofs.lemmas.Iterator.{YieldsList-from_map, YieldsList-from_slice}
 use Rattle.std.proofs.lemmas.Iterator.Consumers.{sum_by_from_yields_List}
 use Rattle.families.specs.Copies.{everything}
@@ -17,9 +16,6 @@ sum_by-small [] small = omega arith
 sum_by-small (v ∷ votes) small =
     let first : v < 256 = small 0 in
     omega (arith, sum_by-small votes (λ k. small (suc k)), sum_by-cons (λ v. v) v votes)
-
-pub sum-requires-clause-fits : goal.sum-requires-clause-fits
-sum-requires-clause-fits c = search (rules, sums)
 
 pub returns : goal.returns
 returns c =

@@ -1,12 +1,8 @@
 use Rattle.std.proofs.Common.{◌≡◌, ◌+◌, ◌++◌, vec_items, ap, ◌∙◌}
-use Rattle.std.proofs.lemmas.Result.{IfOk-from_err}
 use Rattle.script.specs.Order.{told_as}
-use Rattle.script.proofs.Ordering.{bad_end, bad_more, none_told, one_told}
+use Rattle.script.proofs.Ordering.{bad_more, none_told, one_told}
 use Rattle.script.proofs.order.bad_lines.Goals as goal
 use Rattle.script.proofs.order.bad_lines.Goals.{in-Some+in_ok-push, in_default}
-
-pub returns-in_err-push : goal.returns-in_err-push
-returns-in_err-push g c = IfOk-from_err c.from_residual.result _ c.from_residual.ensures.0
 
 pub loop-i-preserved : goal.loop-i-preserved
 loop-i-preserved g c =
@@ -20,6 +16,3 @@ loop-i-preserved g c =
       | in_default w ↦ ap vec_items w.bad-is ∙ none_told old (i + 1) _ w.in_default.is
     ] in
     rw same more
-
-pub returns : goal.returns
-returns g c = bad_end g.S.SetsUp.same c.args.lines.now c.loop-i.i (vec_items c.loop-i.bad) c.loop-i.invariant c.loop-i-test.false

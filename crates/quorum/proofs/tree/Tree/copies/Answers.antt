@@ -1,11 +1,7 @@
-use Rattle.std.proofs.Common.{◌≡◌, ◌+◌, ◌-◌, ◌*◌, ◌/◌, ◌≤◌, sym, ap, ◌∙◌, arith}
-use native.Mathlib.Nat.{sub-zero}
+use Rattle.std.proofs.Common.{◌≡◌, ◌+◌, ◌-◌, ◌*◌, ◌/◌, ◌≤◌, arith}
 use Rattle.families.specs.Trees.{copies_of, last_copy}
 use Rattle.quorum.specs.Shaping.{few_copies, level_below, level_passed, odd_degree}
 use Rattle.quorum.proofs.tree.Tree.copies.Goals as goal
-
-pub loop-level-init : goal.loop-level-init
-loop-level-init c = ap (λ k. last_copy (c.args.self.now.degree / 2) k 1) (sym (sub-zero c.args.self.now.height))
 
 passed : (c : goal.In-loop-level) → copies_of (c.args.self.now.degree / 2) c.args.self.now.height ≡ last_copy (c.args.self.now.degree / 2) (c.args.self.now.height - (c.loop-level._level + 1)) (c.loop-level.last * c.args.self.now.degree + 1)
 passed c =
@@ -28,10 +24,3 @@ overflow_add-last c = omega (arith, small c)
 
 pub loop-level-preserved : goal.loop-level-preserved
 loop-level-preserved c = passed c
-
-pub returns : goal.returns
-returns c =
-    let tree = c.args.self.now in
-    let done : tree.height - c.loop-level._level ≡ 0 = omega arith in
-    let last : copies_of (tree.degree / 2) tree.height ≡ c.loop-level.last = c.loop-level.invariant ∙ ap (λ k. last_copy (tree.degree / 2) k c.loop-level.last) done in
-    (sym last, omega (arith, last, few_copies tree.degree tree.height tree.allowed))
