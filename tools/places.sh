@@ -6,9 +6,9 @@ at="$1"
 src='crates/*/src/*.rt'
 
 hits() {
-    git grep -nE "$2" $at -- "$src" > /tmp/places.$$
-    printf '== %s: %s\n' "$1" "$(wc -l < /tmp/places.$$)"
-    sed -E "s/^$at://; s/^crates\///" /tmp/places.$$
+    found=$(git grep -nE "$2" $at -- "$src" | sed -E "s/^$at://; s/^crates\///")
+    printf '== %s: %s\n' "$1" "$(printf '%s' "$found" | grep -c '')"
+    [ -n "$found" ] && printf '%s\n' "$found"
 }
 
 hits '1 a bare number as an error' 'Result<.*, *[iu](8|16|32|64|size)>'
@@ -37,4 +37,3 @@ else
         [ -d "$c/proofs" ] && printf '%s %s %s\n' "${c#crates/}" "$(git ls-files "$c/proofs" | grep -c Answers.antt)" "$(git ls-files "$c/proofs" | grep '\.antt$' | xargs cat | wc -l)"
     done
 fi
-rm -f /tmp/places.$$
