@@ -38,9 +38,10 @@ pub trait Bank {
     ghost lawful: { (b : Self) → Lawful (meaning b) };
 }
 
-/// Refuses a layer over an empty bank, and one whose list has not a member for each station of the bank below.
-pub fn check_layer<B: Bank>(below: &B, members: usize) -> Result<(), BankFault>
-    ensures { result ≡ answered (layer_fault members (B.Bank.meaning below.now)) tt }
+/// The sizes of the bank below a layer, which it is asked for once. Refused are a layer over an empty bank, and one whose list
+/// has not a member for each station of the bank below.
+pub fn sizes_below<B: Bank>(below: &B, members: usize) -> Result<Sizes, BankFault>
+    ensures { result ≡ answered (layer_fault members (B.Bank.meaning below.now)) (sizes_of (B.Bank.meaning below.now)) }
 {
     let sizes = below.sizes();
     if !sizes.allowed() {
@@ -48,8 +49,16 @@ pub fn check_layer<B: Bank>(below: &B, members: usize) -> Result<(), BankFault>
     } else if members != sizes.stations as usize {
         Err(BankFault::Length(sizes.stations))
     } else {
-        Ok(())
+        Ok(sizes)
     }
+}
+
+/// Refuses a layer over an empty bank, and one whose list has not a member for each station of the bank below.
+pub fn check_layer<B: Bank>(below: &B, members: usize) -> Result<(), BankFault>
+    ensures { result ≡ answered (layer_fault members (B.Bank.meaning below.now)) tt }
+{
+    sizes_below(below, members)?;
+    Ok(())
 }
 
 /// The sizes of a layer: those of the bank below, or none where the layer was refused.

@@ -1,10 +1,10 @@
 //! What a rule chooses when some copies are away, by the numbers of the copies.
 #![tactic(auto)]
 
-ghost use Rattle.std.specs.Prelude.{◌≡◌, ◌≤◌, cond, not, length, IfOk, Some};
-ghost use Rattle.families.specs.Copies.{among};
+ghost use Rattle.std.specs.Prelude.{◌≡◌, ℕ, ◌≤◌, length, take, IfOk, None, Some, MatchResult};
 ghost use Rattle.quorum.specs.Choosing.{Fitting};
 ghost use Rattle.choosing.specs.Numbers.{Choice, Numbered, named, no_choice_text, no_copy, reach_without};
+ghost use Rattle.choosing.specs.declared.NoChoice.TheVariants.{NoCopy};
 
 use families::Quorum;
 use quorum::fault::RuleFault;
@@ -32,26 +32,19 @@ impl fmt::Display for NoChoice {
     }
 }
 
-/// The first of these numbers that is none of the `n` copies.
-fn no_copy(n: u32, numbers: &[u32]) -> Option<u32>
-    ensures { result ≡ no_copy n numbers.now }
-{
-    numbers.iter().copied().find(|copy| *copy == 0 || *copy > n)
-}
-
-/// The reach mark of a copy: 0 if it is one of those away.
-fn reach_mark(away: &[u32], copy: u32) -> u8
-    ensures { result ≡ cond (not (among away.now copy)) 1 0 }
-{
-    u8::from(!away.contains(&copy))
-}
-
-/// The reach marks of `n` copies with these away.
-fn reach_without(heap: Global, n: u32, away: &[u32]) -> Result<Vec<u8>, AllocError>
+/// The reach marks of `n` copies with these away, and the rest of the array; refused where one of these is no copy.
+fn reach_without(n: u32, away: &[u32]) -> Result<[u8; 64], NoChoice>
     requires { n ≤ 64 }
-    ensures { IfOk result (λ marks. marks.items ≡ reach_without n away.now) }
+    ensures { MatchResult result (λ marks. (no_copy n away.now ≡ None) × (take n marks ≡ reach_without n away.now)) (λ f. (c : ℕ) × (no_copy n away.now ≡ Some c) × (f ≡ NoCopy c)) }
 {
-    (1..n + 1).map(|copy| reach_mark(away, copy)).collect(heap)
+    let mut reach = [1; 64];
+    for &copy in away {
+        if copy == 0 || copy > n {
+            return Err(NoChoice::NoCopy(copy));
+        }
+        reach[copy as usize - 1] = 0;
+    }
+    Ok(reach)
 }
 
 /// The numbers of the copies whose marks are not 0.
@@ -84,7 +77,7 @@ fn choose_numbers<R: Rule>(
 }
 
 /// The copies that the rule chooses, by number, when these copies are away and all others in reach. Want of memory is
-/// no answer of the rule.
+/// no answer of the rule: none is taken but for the numbers of the copies chosen.
 pub fn choose_without<R: Rule>(
     heap: Global,
     rule: &R,
@@ -94,10 +87,12 @@ pub fn choose_without<R: Rule>(
     ensures { IfOk result (λ x. Choice (R.Rule.meaning rule.now) quorum away.now x) }
 {
     let n = rule.copies();
-    if let Some(copy) = no_copy(n, away) {
-        return Ok(Err(NoChoice::NoCopy(copy)));
+    match reach_without(n, away) {
+        Ok(reach) => {
+            let len = n as usize;
+            let mut choice = [0; 64];
+            choose_numbers(heap, rule, quorum, &reach[..len], &mut choice[..len])
+        }
+        Err(none) => Ok(Err(none)),
     }
-    let reach = reach_without(heap, n, away)?;
-    let mut choice = vec![in heap; 0; n as usize]?;
-    choose_numbers(heap, rule, quorum, &reach, &mut choice)
 }

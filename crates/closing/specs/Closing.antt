@@ -1,8 +1,10 @@
 -- What a bank means some of whose stations are shut.
-use Rattle.std.specs.Prelude.{ℕ, ◌-◌, Bool, true, false, cond, not, ◌&&◌, List, length, Option, ◌==◌, nat_le, slice_index}
+use Rattle.std.specs.Prelude.{ℕ, ◌-◌, Bool, true, false, cond, not, ◌&&◌, List, [], ◌∷◌, length, Option, ◌==◌, nat_le, slice_index}
+use Rattle.banks.specs.Calls.{first, no_entry, no_station}
 use Rattle.banks.specs.Making.{layer_fault, settled}
 use Rattle.banks.specs.Meaning.{Meaning, Station}
 use Rattle.banks.specs.declared.fault.BankFault.{BankFault}
+use Rattle.banks.specs.declared.fault.BankFault.TheVariants.{Away}
 
 -- the mark of the station is not 0
 abbrev pub is_shut : List ℕ → ℕ → Bool
@@ -27,3 +29,7 @@ closing_fault marks b = layer_fault (length marks) b
 
 abbrev pub closing : List ℕ → Meaning → Meaning
 closing marks b = settled (closing_fault marks b) (closed marks b)
+
+-- why a fetching or a storing of the bank with shut stations comes to nothing before the bank below is asked
+abbrev pub barred : List ℕ → Meaning → ℕ → ℕ → Option BankFault
+barred marks b s e = first (no_station b.n s ∷ (no_entry b.m e ∷ (record { met = is_shut marks s; told = Away s } ∷ [])))

@@ -1,6 +1,7 @@
 -- What the calls of a closed bank come to, by those of the bank below.
-use Rattle.std.specs.Prelude.{◌≡◌, ℕ, Bool, true, false, cond, ◌⊎◌, List, Some, None, Err, Option, ◌==◌, refl}
-use Rattle.std.proofs.Common.{inl, inr, sym, ap, ◌∙◌, eqb-true}
+use Rattle.std.specs.Prelude.{◌≡◌, ℕ, Bool, true, false, cond, ◌⊎◌, List, Some, None, Ok, Err, Option, ◌==◌, refl}
+use Rattle.std.proofs.Common.{inl, inr, sym, ap, ◌∙◌, eqb-true, arith}
+use Rattle.std.proofs.lemmas.Bool.Decides.{nat_tests}
 use Rattle.std.proofs.Math.Path.{fun_ext}
 use Rattle.banks.proofs.Makings.{empty_lawful, made_if}
 use Rattle.banks.specs.Calls.{altered, answered, reach_answer, reach_fault, reach_set, store_answer, store_fault, stored, with_cell, with_reach, with_station_reach}
@@ -10,7 +11,11 @@ use Rattle.banks.specs.Meaning.{Empty, Lawful, Meaning, Station}
 use Rattle.banks.specs.declared.fault.BankFault.{BankFault}
 use Rattle.banks.specs.declared.fault.BankFault.TheVariants.{Away}
 use Rattle.banks.specs.declared.record.Record.{Record}
-use Rattle.closing.specs.Closing.{closed, closing, closing_fault, is_shut, shut_station}
+use Rattle.closing.specs.Closing.{barred, closed, closing, closing_fault, is_shut, shut_station}
+
+-- what a call that is not barred has found
+pub unbarred : (marks : List ℕ) (b : Meaning) (s e : ℕ) → Ok tt ≡ answered {A = Unit {0}} (barred marks b s e) tt → (between 1 b.n s ≡ true) × (is_shut marks s ≡ false)
+unbarred marks b s e h = grind (arith, nat_tests)
 
 altered_closed : (marks : List ℕ) (o : Option BankFault) (b x : Meaning) → closed marks (altered o b x) ≡ altered o (closed marks b) (closed marks x)
 altered_closed marks None b x = refl

@@ -1,11 +1,12 @@
 //! A layer over a bank that shuts some of its stations.
 #![tactic(auto)]
 
-ghost use Rattle.closing.specs.Closing.{closing, closing_fault, is_shut};
+ghost use Rattle.banks.specs.Calls.{answered, sizes_of};
+ghost use Rattle.closing.specs.Closing.{barred, closing, closing_fault, is_shut};
 ghost use Rattle.std.specs.Prelude.{◌≡◌};
 ghost use Rattle.closing.specs.Closings.{closing_lawful};
 
-use banks::bank::{Bank, check_layer, layer_sizes};
+use banks::bank::{Bank, sizes_below};
 use banks::fault::BankFault;
 use banks::record::{Record, Sizes};
 
@@ -29,7 +30,14 @@ impl<B: Bank> Closing<B> {
     pub fn refusal(&self) -> Option<BankFault>
         ensures { result ≡ closing_fault self.now.marks.items (B.Bank.meaning self.now.inner) }
     {
-        check_layer(&self.inner, self.marks.len()).err()
+        self.made().err()
+    }
+
+    /// The sizes of the layer, or why its making was refused.
+    fn made(&self) -> Result<Sizes, BankFault>
+        ensures { result ≡ answered (closing_fault self.now.marks.items (B.Bank.meaning self.now.inner)) (sizes_of (B.Bank.meaning self.now.inner)) }
+    {
+        sizes_below(&self.inner, self.marks.len())
     }
 
     /// Whether the station is shut.
@@ -42,6 +50,21 @@ impl<B: Bank> Closing<B> {
                 .get(station as usize - 1)
                 .is_some_and(|&mark| mark != 0)
     }
+
+    /// Refuses a station that is none, an entry that is none, and a station that is shut, in this order. Whether one that is
+    /// not shut is away, the bank below tells.
+    fn check(&self, station: u32, entry: u32) -> Result<(), BankFault>
+        ensures { result ≡ answered (barred self.now.marks.items (closing self.now.marks.items (B.Bank.meaning self.now.inner)) station entry) tt }
+    {
+        let sizes = self.sizes();
+        sizes.check_station(station)?;
+        sizes.check_entry(entry)?;
+        if self.is_shut(station) {
+            Err(BankFault::Away(station))
+        } else {
+            Ok(())
+        }
+    }
 }
 
 impl<B: Bank> Bank for Closing<B> {
@@ -50,7 +73,7 @@ impl<B: Bank> Bank for Closing<B> {
     ghost lawful = { λ c. closing_lawful c.marks.items (B.Bank.meaning c.inner) (B.Bank.lawful c.inner) };
 
     fn sizes(&self) -> Sizes {
-        layer_sizes(&self.inner, self.refusal())
+        self.made().unwrap_or_default()
     }
 
     fn in_reach(&self, station: u32) -> Result<bool, BankFault> {
@@ -62,14 +85,12 @@ impl<B: Bank> Bank for Closing<B> {
     }
 
     fn fetch(&self, station: u32, entry: u32) -> Result<Record, BankFault> {
-        self.sizes()
-            .check_call(station, entry, self.in_reach(station))?;
+        self.check(station, entry)?;
         self.inner.fetch(station, entry)
     }
 
     fn store(&mut self, station: u32, entry: u32, kept: Record) -> Result<(), BankFault> {
-        self.sizes()
-            .check_call(station, entry, self.in_reach(station))?;
+        self.check(station, entry)?;
         self.inner.store(station, entry, kept)
     }
 

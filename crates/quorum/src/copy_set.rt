@@ -1,5 +1,5 @@
 //! Sets of copies, of which there are at most 64.
-ghost use Rattle.std.specs.Prelude.{◌≡◌, ℕ, ◌<◌, false, ◌||◌, [], ◌∷◌, ◌==◌, IsTrue};
+ghost use Rattle.std.specs.Prelude.{◌≡◌, ℕ, ◌<◌, false, ◌||◌, [], ◌∷◌, ◌==◌, IsTrue, cond};
 ghost use Rattle.families.specs.Copies.{among};
 ghost use Rattle.quorum.specs.Sets.{Same, members};
 
@@ -24,6 +24,14 @@ impl CopySet {
         ensures marked { IsTrue result → copy < 65 }
     {
         copy < 65 && self.marks[copy]
+    }
+
+    /// The mark of a copy: 1 if the set has it. No test stands in it, so that marks are written many at a time.
+    pub(crate) fn mark(&self, copy: usize) -> u8
+        requires { copy < 65 }
+        ensures { result ≡ cond (members self.now copy) 1 0 }
+    {
+        u8::from(self.marks[copy])
     }
 
     pub(crate) fn only(copy: usize) -> CopySet

@@ -30,10 +30,11 @@ pub(crate) fn marked_set(reach: &[u8]) -> CopySet
 
 /// Writes 1 for each copy of the set, and 0 for the rest.
 pub(crate) fn fill_marks(set: &CopySet, choice: &mut [u8])
+    requires { length choice.old < 65 }
     ensures { choice.new ≡ marks (length choice.old) (members set.now) }
 {
     for (i, mark) in choice.iter_mut().enumerate() {
-        *mark = u8::from(set.has(i + 1));
+        *mark = set.mark(i + 1);
     }
 }
 
@@ -55,6 +56,7 @@ pub(crate) fn give(
     set: Option<CopySet>,
     choice: &mut [u8],
 ) -> Result<Chosen, RuleFault>
+    requires { length choice.old < 65 }
     ensures { Gives quorum set choice.old choice.new result }
 {
     match set {

@@ -1,5 +1,5 @@
 -- What a bank means that keeps its records in a table, a row for each station.
-use Rattle.std.specs.Prelude.{◌≡◌, ℕ, ◌-◌, Bool, false, cond, ◌&&◌, ◌||◌, List, [], get_or, map, Some, None, Option, ◌==◌, slice_index_or, vec_items, vec_len, refl}
+use Rattle.std.specs.Prelude.{◌≡◌, ℕ, ◌+◌, ◌-◌, ◌*◌, Bool, false, cond, ◌&&◌, ◌||◌, List, [], get_or, map, Some, None, Option, ◌==◌, slice_index_or, vec_items, vec_len, refl}
 use Rattle.banks.specs.Limits.{allowed_sizes, between, first_record}
 use Rattle.banks.specs.Making.{no_record, no_station_there}
 use Rattle.banks.specs.Meaning.{Meaning, Station}
@@ -22,6 +22,10 @@ table_refusal z = cond (z.stations == 0) (Some fault.Sizes) None
 -- a record that stands past the end of every row
 abbrev pub past : Kept
 past = record { plain = first_record (payloads 0 0 0 0); fits = refl }
+
+-- where the record of a station and an entry stands when the rows are put one after the other
+abbrev pub place : ℕ → ℕ → ℕ → ℕ
+place m s e = (s - 1) * m + (e - 1)
 
 -- which of the stations are in reach
 abbrev pub reaches : List Row → List Bool

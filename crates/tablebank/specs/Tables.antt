@@ -1,13 +1,14 @@
 -- What a table means, new and after a change.
-use Rattle.std.specs.Prelude.{◌≡◌, ℕ, ◌-◌, ◌<◌, Bool, true, false, cond, ◌&&◌, ◌||◌, T, ◌≢◌, ◌⊎◌, List, [], length, get_or, replicate, ◌==◌, slice_index_or, slice_set, vec_items, vec_len, refl}
+use Rattle.std.specs.Prelude.{◌≡◌, ℕ, ◌-◌, ◌*◌, ◌<◌, Bool, true, false, cond, ◌&&◌, ◌||◌, T, ◌≢◌, ◌⊎◌, List, [], length, get_or, replicate, ◌==◌, slice_index_or, slice_set, vec_items, vec_len, refl}
 use Rattle.std.proofs.Common.{inl, inr, sym, ap, subst, ◌∙◌, arith, eqb-true, get_or-set_other, get_or-set_same}
 use Rattle.std.proofs.Math.Path.{fun_ext}
+use Rattle.std.proofs.Math.Arith.{digits_lt}
 use Rattle.std.proofs.lemmas.Bool.{eqb-false}
 use Rattle.std.proofs.lemmas.List.{get_or-map, get_or-replicate, length-map, map-set}
 use Rattle.std.proofs.Math.Seq.{map-set_same}
 use Rattle.std.specs.List.{All}
 use Rattle.std.specs.Vec.{with_item}
-use Rattle.banks.proofs.Ranges.{from_low, to_high}
+use Rattle.banks.proofs.Ranges.{digits_same, from_low, to_high}
 use Rattle.banks.specs.Calls.{with_cell, with_reach, with_station_reach}
 use Rattle.banks.specs.Limits.{allowed_sizes, between, first_record}
 use Rattle.banks.specs.Making.{new_bank, no_record, no_station_there}
@@ -16,11 +17,24 @@ use Rattle.banks.specs.declared.record.Kept.{Kept}
 use Rattle.banks.specs.declared.record.Record.{Record}
 use Rattle.banks.specs.declared.record.Sizes.{Sizes}
 use Rattle.values.specs.declared.value.Payloads.{Payloads}
-use Rattle.tablebank.specs.Table.{HasEntries, kept, kept_at, past, reaches, sound_sizes, stands, tabled}
+use Rattle.tablebank.specs.Table.{HasEntries, kept, kept_at, past, place, reaches, sound_sizes, stands, tabled}
 use Rattle.tablebank.specs.declared.Row.{Row}
 
 abbrev bank : Sizes → (ℕ → Station) → (ℕ → ℕ → Record) → Meaning
 bank z station cell = record { kind = z.kind; n = z.stations; m = z.entries; station = station; cell = cell }
+
+pub place_inside : (n m s e : ℕ) → between 1 n s ≡ true → between 1 m e ≡ true → place m s e < n * m
+place_inside n m s e hs he =
+    let a = from_low 1 n s hs in let b = to_high 1 n s hs in let c = from_low 1 m e he in let d = to_high 1 m e he in
+    digits_lt {q = s - 1} {m = n} {r = e - 1} {c = m} (omega arith) (omega arith)
+
+-- no two records stand at one place
+pub place_other : (n m s e : ℕ) → between 1 n s ≡ true → between 1 m e ≡ true → (t f : ℕ) → between 1 n t ≡ true → between 1 m f ≡ true → place m t f ≡ place m s e → (t ≡ s) × (f ≡ e)
+place_other n m s e hs he t f ht hf q =
+    let a = from_low 1 n s hs in let b = from_low 1 m e he in let c = to_high 1 m e he in
+    let d = from_low 1 n t ht in let g = from_low 1 m f hf in let h = to_high 1 m f hf in
+    let same = digits_same m (t - 1) (f - 1) (s - 1) (e - 1) (omega arith) (omega arith) q in
+    (omega (arith, same.0), omega (arith, same.1))
 
 -- a number in a range is one more than its index
 module _ (n k : ℕ) (h : between 1 n k ≡ true) where
@@ -91,20 +105,21 @@ stands_set n s reach v hs inside t true false p x =
 stands_set n s reach v hs inside t false false p x = refl
 
 -- the rows of a table, and the row of one of its stations
-module _ (z : Sizes) (rows : List Row) (long : length rows ≡ z.stations) (s : ℕ) (hs : between 1 z.stations s ≡ true) (row : Row) (is : row ≡ get_or rows (s - 1) row) where
-  in_rows : s - 1 < length rows
-  in_rows = omega (arith, index_inside z.stations s hs)
-
+module _ (z : Sizes) (rows : List Row) (s : ℕ) (hs : between 1 z.stations s ≡ true) (in_rows : s - 1 < length rows) (row : Row) (is : row ≡ get_or rows (s - 1) row) where
   records_here : vec_items row.records ≡ get_or (kept rows) (s - 1) []
   records_here = ap (λ r. vec_items r.records) is ∙ sym (get_or-map (λ r. vec_items r.records) rows (s - 1) row [] in_rows)
 
-  pub table_stored : All (HasEntries z.entries) rows → (e : ℕ) (k : Kept) (r : Record) → between 1 z.entries e ≡ true → k.plain ≡ r
+  pub entry_here : All (HasEntries z.entries) rows → (e : ℕ) → between 1 z.entries e ≡ true → e - 1 < vec_len row.records
+  entry_here full e he =
+      let wide : vec_len row.records ≡ z.entries = ap (λ r. vec_len r.records) is ∙ full (s - 1) row in_rows in
+      omega (arith, index_inside z.entries e he, wide)
+
+  pub table_stored : (e : ℕ) (k : Kept) (r : Record) → between 1 z.entries e ≡ true → e - 1 < vec_len row.records → k.plain ≡ r
       → tabled z (slice_set rows (s - 1) (record { reach = row.reach; records = with_item row.records (e - 1) k })) ≡ with_cell (tabled z rows) s e r
-  table_stored full e k r he same =
+  table_stored e k r he inside same =
       let n = z.stations in let m = z.entries in
       let after : Row = record { reach = row.reach; records = with_item row.records (e - 1) k } in
-      let wide : vec_len row.records ≡ m = ap (λ r. vec_len r.records) is ∙ full (s - 1) row in_rows in
-      let in_row : e - 1 < length (get_or (kept rows) (s - 1) []) = subst (λ l. e - 1 < length l) records_here (omega (arith, index_inside m e he, wide, row.records.ok.0)) in
+      let in_row : e - 1 < length (get_or (kept rows) (s - 1) []) = subst (λ l. e - 1 < length l) records_here (omega (arith, inside, row.records.ok.0)) in
       ap (λ l. bank z (stands n l) (kept_at n m (kept (slice_set rows (s - 1) after)))) (map-set_same (λ r. r.reach) rows (s - 1) after row (ap (λ r. r.reach) is))
       ∙ ap (λ l. bank z (stands n (reaches rows)) (kept_at n m l)) (map-set (λ r. vec_items r.records) rows (s - 1) after ∙ ap (λ l. slice_set (kept rows) (s - 1) (slice_set l (e - 1) k)) records_here)
       ∙ ap (bank z (stands n (reaches rows))) (fun_ext (λ t. fun_ext (λ f.

@@ -17,10 +17,7 @@ kind_number FourthPayload = 7
 
 abbrev pub spot_in_record : ℕ → ℕ → Spot
 spot_in_record e zero = Number e
-spot_in_record e (suc zero) = Payload FirstPayload
-spot_in_record e (suc (suc zero)) = Payload SecondPayload
-spot_in_record e (suc (suc (suc zero))) = Payload ThirdPayload
-spot_in_record e (suc (suc (suc (suc k)))) = Payload FourthPayload
+spot_in_record e (suc f) = Payload (f + 4)
 
 abbrev pub spot_in_block : ℕ → ℕ → Spot
 spot_in_block s zero = Station s
@@ -33,7 +30,7 @@ spot_at m j = spot_in_block (j / block m + 1) (j % block m)
 abbrev pub fits : Spot → ℕ → Bool
 fits (Station s) w = kind_of w == 2 && payload_of w / 2 == s
 fits (Number e) w = kind_of w == 3 && (payload_of w / 65536 == e && not (w % 65536 == 0))
-fits (Payload k) w = kind_of w == kind_number k
+fits (Payload k) w = kind_of w == k
 
 abbrev pub right_at : ℕ → List ℕ → ℕ → Bool
 right_at m ws k = fits (spot_at m (k - 1)) (slice_index ws k)

@@ -1,5 +1,5 @@
 //! Where the words of an image stand.
-ghost use Rattle.std.specs.Prelude.{◌≡◌, ◌+◌, ◌-◌, ◌*◌, ◌<◌, length, MatchOption};
+ghost use Rattle.std.specs.Prelude.{◌≡◌, ◌+◌, ◌-◌, ◌*◌, ◌^◌, ◌<◌, length, MatchOption};
 ghost use Rattle.banks.specs.Calls.{sizes_of};
 ghost use Rattle.words.specs.Format.{block, imaged, record_place, size, station_place};
 ghost use Rattle.words.specs.Spots.{AllFit, IsFirstWrong, fits, spot_at};
@@ -15,11 +15,12 @@ pub const RECORD_WORDS: usize = 5;
 #[derive(Clone, Copy, PartialEq, Eq, Debug)]
 enum Spot {
     /// The word of this station.
-    Station(usize),
+    Station(u32),
     /// The number of a record for this entry.
-    Number(usize),
-    /// A payload of a record, in a word of this kind.
-    Payload(Kind),
+    Number(u32),
+    /// A payload of a record, in a word of the kind of this number. It is a number, as places are of 32 bits here, since with
+    /// the kind itself and places of 64 bits the test of an image took a third longer.
+    Payload(u32),
 }
 
 impl Spot {
@@ -28,13 +29,13 @@ impl Spot {
         ensures { result ≡ fits self word }
     {
         let kind = word / PAYLOADS;
-        let payload = (word % PAYLOADS) as usize;
+        let payload = word % PAYLOADS;
         match self {
             Spot::Station(station) => kind == Kind::Station as u32 && payload / 2 == station,
             Spot::Number(entry) => {
                 kind == Kind::Number as u32 && payload / 65_536 == entry && payload % 65_536 != 0
             }
-            Spot::Payload(due) => kind == due as u32,
+            Spot::Payload(due) => kind == due,
         }
     }
 }
@@ -88,31 +89,29 @@ impl Layout {
 
     /// What stands at this place, the first left out.
     fn spot(&self, place: usize) -> Spot
-        requires { 0 < place }
+        requires { (0 < place) × (place < 2 ^ 32) }
         ensures { result ≡ spot_at self.now.sizes.entries (place - 1) }
     {
-        let block = self.block();
-        let station = (place - 1) / block + 1;
-        let offset = (place - 1) % block;
+        let block = self.block() as u32;
+        let before = place as u32 - 1;
+        let offset = before % block;
         if offset == 0 {
-            return Spot::Station(station);
+            return Spot::Station(before / block + 1);
         }
-        match (offset - 1) % RECORD_WORDS {
-            0 => Spot::Number((offset - 1) / RECORD_WORDS + 1),
-            1 => Spot::Payload(Kind::FirstPayload),
-            2 => Spot::Payload(Kind::SecondPayload),
-            3 => Spot::Payload(Kind::ThirdPayload),
-            _ => Spot::Payload(Kind::FourthPayload),
+        match (offset - 1) % RECORD_WORDS as u32 {
+            0 => Spot::Number((offset - 1) / RECORD_WORDS as u32 + 1),
+            field => Spot::Payload(Kind::Number as u32 + field),
         }
     }
 
     /// The first place, that of the first word left out, at which the word cannot stand.
     pub(super) fn first_wrong(&self, words: &[u32]) -> Option<usize>
+        requires { length words.now < 2 ^ 32 }
         ensures { MatchOption result (AllFit self.now.sizes.entries words.now (length words.now)) (IsFirstWrong self.now.sizes.entries words.now) }
     {
         (1..words.len()).find(
             |&place|
-                requires { (0 < place) × (place < length words.now) }
+                requires { (0 < place) × ((place < length words.now) × (place < 2 ^ 32)) }
             { !self.spot(place).fits(words[place]) },
         )
     }
